@@ -1,0 +1,2 @@
+pub mod Subsets
+pub mod Sets

@@ -1,0 +1,4 @@
+pub mod Ints
+pub mod Numbers
+pub mod Operators
+pub mod Worked
