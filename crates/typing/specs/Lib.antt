@@ -1,0 +1,6 @@
+pub mod Exits
+pub mod Environment
+pub mod Classes
+pub mod Rows
+pub mod First
+pub mod Faults
