@@ -4,3 +4,5 @@ pub mod Classes
 pub mod Rows
 pub mod First
 pub mod Faults
+pub mod Typing
+pub mod Formed
