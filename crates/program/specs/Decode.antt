@@ -46,21 +46,21 @@ word-fits Boolean w = ltb w 2
 word-fits Int w = true
 word-fits Unsigned w = true
 
-abbrev constant-of : NodeFields → Option DataType → Option Node
+abbrev pub constant-of : NodeFields → Option DataType → Option Node
 constant-of f None = None
 constant-of f (Some t) = only-if (word-fits t (f .word) && eqb (f .a) 0 && eqb (f .b) 0 && eqb (f .c) 0) (Some (Constant t (f .word)))
 
 abbrev pub constant-decoded : NodeFields → Option Node
 constant-decoded f = constant-of f (type-numbered (f .sort))
 
-abbrev arithmetic-of : NodeFields → Option Operator → Option Node
+abbrev pub arithmetic-of : NodeFields → Option Operator → Option Node
 arithmetic-of f None = None
 arithmetic-of f (Some o) = only-if (eqb (f .c) 0 && eqb (f .word) 0) (Some (Arithmetic o (f .a) (f .b)))
 
 abbrev pub arithmetic-decoded : NodeFields → Option Node
 arithmetic-decoded f = arithmetic-of f (arithmetic-numbered (f .sort))
 
-abbrev comparison-of : NodeFields → Option Order → Option Node
+abbrev pub comparison-of : NodeFields → Option Order → Option Node
 comparison-of f None = None
 comparison-of f (Some o) = only-if (eqb (f .c) 0 && eqb (f .word) 0) (Some (Comparison o (f .a) (f .b)))
 
@@ -109,7 +109,7 @@ role-decoded u o =
     (cond (eqb u 3) (Some (Parameter o))
     None)))
 
-abbrev variable-of : VariableFields → Option Role → Option DataType → Option Variable-record
+abbrev pub variable-of : VariableFields → Option Role → Option DataType → Option Variable-record
 variable-of f None t = None
 variable-of f (Some u) None = None
 variable-of f (Some u) (Some t) = Some (record { role = u; «data_type» = t; level = f .level })
@@ -118,14 +118,14 @@ abbrev pub variable-decoded : VariableFields → Option Variable-record
 variable-decoded f = variable-of f (role-decoded (f .role) (f .owner)) (type-numbered (f .«data_type»))
 
 -- void is 255
-abbrev typed-result : Option DataType → Option (Option DataType)
+abbrev pub typed-result : Option DataType → Option (Option DataType)
 typed-result None = None
 typed-result (Some t) = Some (Some t)
 
 abbrev pub result-decoded : ℕ → Option (Option DataType)
 result-decoded n = cond (eqb n 255) (Some None) (typed-result (type-numbered n))
 
-abbrev procedure-of : ProcedureFields → Option (Option DataType) → Option Procedure
+abbrev pub procedure-of : ProcedureFields → Option (Option DataType) → Option Procedure
 procedure-of f None = None
 procedure-of f (Some t) =
     only-if (eqb (f .spare) 0) (Some (record { result = t; parameters = f .parameters; «first_parameter» = f .«first_parameter»; body = f .body; level = f .level }))

@@ -18,11 +18,11 @@ use Rattle.program.specs.declared.records.Variable.{Variable as Variable-recor
 use Rattle.program.specs.declared.records.Procedure.{Procedure}
 
 -- a field that may be absent is so as 65535
-abbrev field-of : Option ℕ → ℕ
+abbrev pub field-of : Option ℕ → ℕ
 field-of None = 65535
 field-of (Some k) = k
 
-abbrev fields : ℕ → ℕ → ℕ → ℕ → ℕ → ℕ → NodeFields
+abbrev pub fields : ℕ → ℕ → ℕ → ℕ → ℕ → ℕ → NodeFields
 fields kind sort a b c word = record { kind = kind; sort = sort; a = a; b = b; c = c; word = word }
 
 abbrev pub node-encoded : Node → NodeFields
@@ -52,13 +52,13 @@ node-encoded Continue = fields 30 0 0 0 0 0
 node-encoded (Definition v) = fields 31 0 v 0 0 0
 node-encoded (Output a) = fields 32 0 a 0 0 0
 
-abbrev role-number : Role → ℕ
+abbrev pub role-number : Role → ℕ
 role-number Global = 0
 role-number Input = 1
 role-number (Local q) = 2
 role-number (Parameter q) = 3
 
-abbrev owner-number : Role → ℕ
+abbrev pub owner-number : Role → ℕ
 owner-number Global = 65535
 owner-number Input = 65535
 owner-number (Local q) = q
@@ -69,7 +69,7 @@ variable-encoded v =
     record { role = role-number (v .role); «data_type» = type-number (v .«data_type»); owner = owner-number (v .role); level = v .level }
 
 -- void is 255
-abbrev result-number : Option DataType → ℕ
+abbrev pub result-number : Option DataType → ℕ
 result-number None = 255
 result-number (Some t) = type-number t
 
@@ -78,10 +78,10 @@ procedure-encoded d =
     record { result = result-number (d .result); parameters = d .parameters; «first_parameter» = d .«first_parameter»; body = d .body; spare = 0; level = d .level }
 
 -- a number as two bytes and as four, the highest first
-abbrev half-bytes : ℕ → List ℕ
+abbrev pub half-bytes : ℕ → List ℕ
 half-bytes n = n / 256 ∷ n % 256 ∷ []
 
-abbrev word-bytes : ℕ → List ℕ
+abbrev pub word-bytes : ℕ → List ℕ
 word-bytes n = n / 16777216 ∷ n / 65536 % 256 ∷ n / 256 % 256 ∷ n % 256 ∷ []
 
 abbrev pub node-bytes : Node → List ℕ

@@ -32,10 +32,10 @@ in-number l = leb 1 (l .nodes) && leb (l .nodes) 1024 && leb (l .variables) 128 
 abbrev pub laid : ℕ → ℕ → ℕ → Layout
 laid v p e = record { nodes = v / 12; variables = (p - v) / 8; procedures = (e - p) / 12 }
 
-abbrev counted : Layout → Result Layout Refusal
+abbrev pub counted : Layout → Result Layout Refusal
 counted l = cond (in-number l) (Ok l) (Err Counts)
 
-abbrev placed : ℕ → ℕ → ℕ → Result Layout Refusal
+abbrev pub placed : ℕ → ℕ → ℕ → Result Layout Refusal
 placed v p e = cond (in-order v p e) (counted (laid v p e)) (Err Places)
 
 abbrev pub layout-of : List ℕ → Result Layout Refusal

@@ -1,1 +1,6 @@
 pub mod Readings
+pub mod Rising
+pub mod Tabled
+pub mod Determined
+pub mod Complete
+pub mod Sound

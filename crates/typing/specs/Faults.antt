@@ -52,7 +52,7 @@ procedures-in part n = table (λ _ i. known no-procedure (procedure-record part 
 
 -- ---- row 4, at variable i of a file with m procedures
 
-abbrev owner-fits : ℕ → Role → Bool
+abbrev pub owner-fits : ℕ → Role → Bool
 owner-fits m Global = true
 owner-fits m Input = true
 owner-fits m (Local q) = ltb q m
@@ -68,7 +68,7 @@ variable-fault r m part i = unless (variable-fits r m (variable-record part i)) 
 -- ---- rows 5 to 8, at procedure q of m, among the variables vs and n nodes
 
 -- a result has a level, and a void one level 0
-abbrev void-fits : Option DataType → ℕ → Bool
+abbrev pub void-fits : Option DataType → ℕ → Bool
 void-fits None l = eqb l 0
 void-fits (Some t) l = true
 

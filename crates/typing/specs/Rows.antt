@@ -20,7 +20,7 @@ use Rattle.program.specs.declared.records.Variable.{Variable as Variable-record
 use Rattle.program.specs.declared.records.Procedure.{Procedure}
 use Rattle.program.specs.declared.refusal.Refusal.{Refusal}
 use Rattle.program.specs.declared.refusal.Refusal.the-variants.{Child as Bad-child, Scope as Bad-scope, Call as Bad-call, DataType as Bad-type, Level as Bad-level, Exits as Bad-exits}
-use Rattle.typing.specs.Environment.{Environment, variable-at, procedure-at, node-at, type-of, level-of, exits-of, exits-in}
+use Rattle.typing.specs.Environment.{Environment, variable-at, procedure-at, node-at, type-of, level-of, exits-of, class-exits}
 use Rattle.typing.specs.Classes.{class-of}
 use Rattle.typing.specs.declared.classes.Exits.{Exits}
 use Rattle.typing.specs.declared.classes.Class.{Class}
@@ -33,7 +33,7 @@ use Rattle.typing.specs.declared.rows.ArgumentTest.the-variants.{Number, DataT
 
 -- ---- row 11: each child is below 1024, below its parent, of the parent's procedure and of the class that the parent asks
 
-abbrev class-within : ℕ → Option TypedNode → Option Class
+abbrev pub class-within : ℕ → Option TypedNode → Option Class
 class-within q None = None
 class-within q (Some n) = cond (eqb (n .procedure) q) (Some (n .class)) None
 
@@ -100,19 +100,19 @@ children-fit e k q (Output a) = value-child e k q a
 -- ---- row 12: a variable that is named is there, and of this procedure if it is a local or a parameter
 
 -- in procedure q: which variables may be read, which assigned to, and which defined
-abbrev readable-role : ℕ → Role → Bool
+abbrev pub readable-role : ℕ → Role → Bool
 readable-role q Global = true
 readable-role q Input = true
 readable-role q (Local o) = eqb o q
 readable-role q (Parameter o) = eqb o q
 
-abbrev assignable-role : ℕ → Role → Bool
+abbrev pub assignable-role : ℕ → Role → Bool
 assignable-role q Global = true
 assignable-role q Input = true
 assignable-role q (Local o) = eqb o q
 assignable-role q (Parameter o) = false
 
-abbrev definable-role : ℕ → Role → Bool
+abbrev pub definable-role : ℕ → Role → Bool
 definable-role q Global = false
 definable-role q Input = false
 definable-role q (Local o) = eqb o q
@@ -179,7 +179,7 @@ argument-fits r e Number v a = true
 argument-fits r e Types v a = agree (type-of e a) (variable-type (variable-at e v))
 argument-fits r e Levels v a = r .flows (level-of e a) (variable-level (variable-at e v))
 
-abbrev argument-node : Node → Option (ℕ × Option ℕ)
+abbrev pub argument-node : Node → Option (ℕ × Option ℕ)
 argument-node (Constant t w) = None
 argument-node (Variable v) = None
 argument-node (Minus a) = None
@@ -206,7 +206,7 @@ argument-node Continue = None
 argument-node (Definition v) = None
 argument-node (Output a) = None
 
-abbrev argument-in : Option TypedNode → Option (ℕ × Option ℕ)
+abbrev pub argument-in : Option TypedNode → Option (ℕ × Option ℕ)
 argument-in None = None
 argument-in (Some n) = argument-node (n .node)
 
@@ -219,11 +219,11 @@ abbrev pub is-absent : {X : Type 0} → Option X → Bool
 is-absent None = true
 is-absent (Some x) = false
 
-abbrev first-argument-fits : Rules → Environment → ArgumentTest → ℕ → Option (ℕ × Option ℕ) → Bool
+abbrev pub first-argument-fits : Rules → Environment → ArgumentTest → ℕ → Option (ℕ × Option ℕ) → Bool
 first-argument-fits r e t v None = false
 first-argument-fits r e t v (Some (a, next)) = argument-fits r e t v a
 
-abbrev next-argument : Option (ℕ × Option ℕ) → Option ℕ
+abbrev pub next-argument : Option (ℕ × Option ℕ) → Option ℕ
 next-argument None = None
 next-argument (Some (a, next)) = next
 
@@ -268,7 +268,7 @@ calls-fit r e q (Output a) = true
 -- ---- row 14: data types
 
 -- the operators on numbers, and those on all data types
-abbrev numeric : DataType → Bool
+abbrev pub numeric : DataType → Bool
 numeric Boolean = false
 numeric Int = true
 numeric Unsigned = true
@@ -403,13 +403,10 @@ abbrev pub body-exits-fit : Option DataType → Exits → Bool
 body-exits-fit None x = not (x .breaks) && not (x .continues)
 body-exits-fit (Some t) x = x .returns && not (x .falls) && not (x .breaks) && not (x .continues)
 
-abbrev exits-in-class : Class → Exits
-exits-in-class c = exits-in (Some (record { node = Break; procedure = 0; class = c }))
-
 -- the demand on a body, tested at the node that is one
 abbrev pub body-fits : ℕ → Option Procedure → Class → Bool
 body-fits k None c = true
-body-fits k (Some d) c = cond (eqb (d .body) k) (body-exits-fit (d .result) (exits-in-class c)) true
+body-fits k (Some d) c = cond (eqb (d .body) k) (body-exits-fit (d .result) (class-exits c)) true
 
 abbrev pub exits-fit : Rules → Environment → ℕ → ℕ → Node → Bool
 exits-fit r e k q n = parts-fit e n && body-fits k (procedure-at e q) (class-of r e n)
