@@ -4,3 +4,5 @@ pub mod Tabled
 pub mod Determined
 pub mod Complete
 pub mod Sound
+pub mod Belonging
+pub mod Reached

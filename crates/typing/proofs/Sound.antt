@@ -4,7 +4,7 @@ use mathlib.Core.List.{List, [], _∷_}
 use mathlib.Core.Logic.{inl, inr}
 use mathlib.Core.Path.{_≡_, refl, sym, _∙_, ap, ap₂, subst}
 use Prim.Native.Nat.{ℕ, zero, suc, _+_, _<_, _≤_}
-use native.Mathlib.Nat.{not-suc-le-zero}
+use native.Mathlib.Nat.{le-refl, not-suc-le-zero}
 use native.Mathlib.Omega.{arith}
 use lib.Dec.{eqb, ltb}
 use lib.ListN.{length, take, drop, getD}
@@ -36,7 +36,7 @@ use Rattle.typing.specs.declared.classes.Exits.{Exits}
 use Rattle.typing.specs.declared.classes.TypedNode.{TypedNode}
 use Rattle.typing.specs.declared.rows.ArgumentTest.{ArgumentTest}
 use Rattle.typing.specs.declared.rows.ArgumentTest.the-variants.{Number, DataType as Types, Level as Levels}
-use Rattle.typing.proofs.Tabled.{below, typed, seen, node-is, procedure-is, at-below, at-there, at-item, some-none, false-true}
+use Rattle.typing.proofs.Tabled.{home, below, typed, seen, node-is, class-is, procedure-is, at-below, at-there, at-item, some-none, false-true}
 use Rattle.typing.proofs.Complete.{Passes}
 
 -- ---- what single tests tell
@@ -101,20 +101,17 @@ absent None h = refl
 absent (Some x) h = false-true h
 
 module _ (r : Rules) (p : Program) where
-  abbrev pub home : ℕ → ℕ
-  home n = procedure-of (p .procedures) n
-
   -- an argument that is there lies below node n, in procedure q
   Chain : ℕ → ℕ → Option ℕ → Type 0
   Chain q n None = Unit {0}
-  Chain q n (Some m) = (m < n) × (home m ≡ q) × (typed r p m .class ≡ Argument)
+  Chain q n (Some m) = (m < n) × (home p m ≡ q) × (typed r p m .class ≡ Argument)
 
   -- what a derivation for node n of procedure q is, where its class is known
   unfoldable pub Derives : ℕ → ℕ → Class → Type 0
   unfolding Chain
   Derives q n (Value None l) = Void-call r p q n
   Derives q n (Value (Some t) l) = Expression r p q n t l
-  Derives q n Argument = (a : ℕ) × (next : Option ℕ) × Node-is p n (Argument-node a next) × (a < n) × (home a ≡ q) × Chain q n next
+  Derives q n Argument = (a : ℕ) × (next : Option ℕ) × Node-is p n (Argument-node a next) × (a < n) × (home p a ≡ q) × Chain q n next
   Derives q n (Statement-class x) = Statement r p q n x
 
   as-expression : (q n : ℕ) (t : DataType) (c : Class) → class-type c ≡ Some t → Derives q n c → Expression r p q n t (class-level c)
@@ -138,10 +135,10 @@ module _ (r : Rules) (p : Program) where
   -- what the row on children tells of one, by a test that an absent class fails
   pub record Child (q n m : ℕ) (f : Option Class → Bool) : Type 0 where
     pub lt : m < n
-    pub at-home : home m ≡ q
+    pub at-home : home p m ≡ q
     pub fits : f (Some (typed r p m .class)) ≡ true
 
-  within : (q m : ℕ) (f : Option Class → Bool) → f None ≡ false → (b : Bool) → eqb (typed r p m .procedure) q ≡ b → f (cond b (Some (typed r p m .class)) None) ≡ true → (home m ≡ q) × (f (Some (typed r p m .class)) ≡ true)
+  within : (q m : ℕ) (f : Option Class → Bool) → f None ≡ false → (b : Bool) → eqb (typed r p m .procedure) q ≡ b → f (cond b (Some (typed r p m .class)) None) ≡ true → (home p m ≡ q) × (f (Some (typed r p m .class)) ≡ true)
   within q m f z true e h = (sym (procedure-is r p m) ∙ eqb-true (typed r p m .procedure) q e, h)
   within q m f z false e h = false-true (sym z ∙ h)
 
@@ -158,11 +155,11 @@ module _ (r : Rules) (p : Program) where
 
   -- ---- one node, above nodes that have derivations
 
-  module _ (n : ℕ) (lower-derive : (m : ℕ) → m < n → Derives (home m) m (typed r p m .class)) where
-    derive-in : (q m : ℕ) → m < n → home m ≡ q → Derives q m (typed r p m .class)
+  module _ (n : ℕ) (lower-derive : (m : ℕ) → m < n → Derives (home p m) m (typed r p m .class)) where
+    derive-in : (q m : ℕ) → m < n → home p m ≡ q → Derives q m (typed r p m .class)
     derive-in q m lt e = subst (λ (o : ℕ). Derives o m (typed r p m .class)) e (lower-derive m lt)
 
-    operand-of : (q m : ℕ) (t : DataType) → m < n → home m ≡ q → type-of (below r p n) m ≡ Some t → Expression r p q m t (level-of (below r p n) m)
+    operand-of : (q m : ℕ) (t : DataType) → m < n → home p m ≡ q → type-of (below r p n) m ≡ Some t → Expression r p q m t (level-of (below r p n) m)
     operand-of q m t lt e h =
         subst (λ (l : ℕ). Expression r p q m t l) (sym (ap level-in (seen r p n m lt)))
         (as-expression q m t (typed r p m .class) (sym (ap type-in (seen r p n m lt)) ∙ h) (derive-in q m lt e))
@@ -196,7 +193,7 @@ module _ (r : Rules) (p : Program) where
     chain-down q m None lt c = tt
     chain-down q m (Some o) lt c = (omega (arith, c .0), c .1, c .2)
 
-    argument-typed : (q v a : ℕ) → v < length (p .variables) → a < n → home a ≡ q → argument-fits r (below r p n) Types v a ≡ true → Expression r p q a (getD (p .variables) v no-variable .«data_type») (level-of (below r p n) a)
+    argument-typed : (q v a : ℕ) → v < length (p .variables) → a < n → home p a ≡ q → argument-fits r (below r p n) Types v a ≡ true → Expression r p q a (getD (p .variables) v no-variable .«data_type») (level-of (below r p n) a)
     unfolding below
     argument-typed q v a lt less e h =
         let x = getD (p .variables) v no-variable in
@@ -350,3 +347,21 @@ module _ (r : Rules) (p : Program) where
     node-derives q (Definition v) h there k = definition-rule q v (variable-at (below r p n) v) h refl (k .scope)
     node-derives q (Output a) h there k =
         let e = present (type-of (below r p n) a) (k .types) in output h (public-operand q a (e .0) (k .child) (e .1) (k .levels))
+
+  -- ---- all nodes
+
+  module _
+    (there : (g : ℕ) (d : Procedure) → Procedure-is p g d → d .«first_parameter» + d .parameters ≤ length (p .variables))
+    (passes : (n : ℕ) (x : Node) → Node-is p n x → Passes r (below r p n) n (home p n) x)
+    where
+    one-derives : (n : ℕ) → n < length (p .nodes) → ((m : ℕ) → m < n → Derives (home p m) m (typed r p m .class)) → Derives (home p n) n (typed r p n .class)
+    one-derives n lt before =
+        let h = at-there no-node (p .nodes) n lt in
+        subst (Derives (home p n) n) (sym (class-is r p n _ h)) (node-derives n before (home p n) _ h there (passes n _ h))
+
+    up-to : (k n : ℕ) → k ≤ length (p .nodes) → n < k → Derives (home p n) n (typed r p n .class)
+    up-to zero n few lt = absurd (not-suc-le-zero lt)
+    up-to (suc k) n few lt = one-derives n (omega arith) (λ m less. up-to k m (omega arith) (omega arith))
+
+    pub all-derive : (n : ℕ) → n < length (p .nodes) → Derives (home p n) n (typed r p n .class)
+    all-derive n lt = up-to (length (p .nodes)) n (le-refl (length (p .nodes))) lt

@@ -40,6 +40,10 @@ at-item d xs k x h = at-cases (ltb k (length xs)) (getD xs k d) x h .1
 pub at-there : {X : Type 0} (d : X) (xs : List X) (k : ℕ) → k < length xs → at d xs k ≡ Some (getD xs k d)
 at-there d xs k lt = ap (λ (b : Bool). cond b (Some (getD xs k d)) None) (lt-ltb k (length xs) lt)
 
+-- the procedure of node n
+abbrev pub home : Program → ℕ → ℕ
+home p n = procedure-of (p .procedures) n
+
 module _ (r : Rules) (p : Program) where
   next-typed : List TypedNode → ℕ → TypedNode
   next-typed ns k = typed-node r (environment (p .variables) (p .procedures) ns) (procedure-of (p .procedures) k) (getD (p .nodes) k no-node)
@@ -64,7 +68,7 @@ module _ (r : Rules) (p : Program) where
   unfolding below typed
   class-is k x h = ap (class-of r (below k)) (at-item no-node (p .nodes) k x h)
 
-  pub procedure-is : (k : ℕ) → typed k .procedure ≡ procedure-of (p .procedures) k
+  pub procedure-is : (k : ℕ) → typed k .procedure ≡ home p k
   unfolding typed
   procedure-is k = refl
 
