@@ -6,3 +6,5 @@ pub mod Complete
 pub mod Sound
 pub mod Belonging
 pub mod Reached
+pub mod Checks
+pub mod Forms

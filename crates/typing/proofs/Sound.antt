@@ -96,7 +96,7 @@ present : {X : Type 0} (o : Option X) → negate (is-absent o) ≡ true → (x :
 present None h = false-true h
 present (Some x) h = (x, refl)
 
-absent : {X : Type 0} (o : Option X) → is-absent o ≡ true → o ≡ None
+pub absent : {X : Type 0} (o : Option X) → is-absent o ≡ true → o ≡ None
 absent None h = refl
 absent (Some x) h = false-true h
 
@@ -121,7 +121,7 @@ module _ (r : Rules) (p : Program) where
   as-expression q n t Argument h d = some-none t (sym h)
   as-expression q n t (Statement-class x) h d = some-none t (sym h)
 
-  as-statement : (q n : ℕ) (c : Class) → is-statement (Some c) ≡ true → Derives q n c → Statement r p q n (class-exits c)
+  pub as-statement : (q n : ℕ) (c : Class) → is-statement (Some c) ≡ true → Derives q n c → Statement r p q n (class-exits c)
   unfolding Derives
   as-statement q n (Value t l) h d = false-true h
   as-statement q n Argument h d = false-true h
@@ -150,7 +150,7 @@ module _ (r : Rules) (p : Program) where
       let w = within q m f z (eqb (typed r p m .procedure) q) refl (sym (ap (λ (o : Option TypedNode). f (class-within q o)) (seen r p n m lt)) ∙ h) in
       record { lt = lt; at-home = w .0; fits = w .1 }
 
-  child : (q n m : ℕ) (f : Option Class → Bool) → f None ≡ false → f (child-class (below r p n) n q m) ≡ true → Child q n m f
+  pub child : (q n m : ℕ) (f : Option Class → Bool) → f None ≡ false → f (child-class (below r p n) n q m) ≡ true → Child q n m f
   child q n m f z h = tested q n m f z (ltb m 1024) (ltb m n) refl h
 
   -- ---- one node, above nodes that have derivations
