@@ -96,11 +96,10 @@ module _
   (beside : (n m : ℕ) (x : Node) → Node-is p n x → Among m (children x) → procedure-of (p .procedures) m ≡ procedure-of (p .procedures) n)
   (there : (g : ℕ) (d : Procedure) → Procedure-is p g d → d .«first_parameter» + d .parameters ≤ length (p .variables))
   where
-  Home : ℕ → ℕ → Type 0
+  abbrev pub Home : ℕ → ℕ → Type 0
   Home q n = q ≡ procedure-of (p .procedures) n
 
   child-known : (q n m : ℕ) (x : Node) → Home q n → Node-is p n x → Among m (children x) → child-class (below r p n) n q m ≡ Some (typed r p m .class)
-  unfolding Home
   child-known q n m x home h c =
       let lt = lower n m x h c in
       let small : m < 1024 = omega (arith, at-below no-node (p .nodes) n x h) in
@@ -220,12 +219,12 @@ module _
   among-next a (Some k) m e = inr (inl cc)
 
   -- a node passes the rows, whatever it is
-  Passing : ℕ → ℕ → Type 0
+  abbrev pub Passing : ℕ → ℕ → Type 0
   Passing q n = (x : Node) × (Node-is p n x) × Passes r (below r p n) n q x
 
 
-  expression-passes : {q n l : ℕ} {t : DataType} → Home q n → Expression r p q n t l → Passing q n
-  unfolding Passing below
+  pub expression-passes : {q n l : ℕ} {t : DataType} → Home q n → Expression r p q n t l → Passing q n
+  unfolding below
   expression-passes {q = q} {n = n} home (constant h) =
       (_, h, record { child = refl; scope = refl; called = refl; types = refl; levels = refl; parts = refl })
   expression-passes {q = q} {n = n} home (variable {x = x} h v s) =
@@ -287,8 +286,7 @@ module _
       let o = operand q n a l t _ home h (inl refl) d in
       (_, h, record { child = o .fits; scope = refl; called = refl; types = ap (λ (u : Option DataType). negate (is-absent u)) (o .type); levels = refl; parts = refl })
 
-  void-passes : {q n : ℕ} → Home q n → Void-call r p q n → Passing q n
-  unfolding Passing
+  pub void-passes : {q n : ℕ} → Home q n → Void-call r p q n → Passing q n
   void-passes {q = q} {n = n} home (void-call {g = g} {f = f} {d = d} h lt i t s) =
       ( _, h
       , record
@@ -296,8 +294,7 @@ module _
         ; called = two _ _ (lt-ltb g q lt) (call-passes q n g f d Number h i s)
         ; types = call-passes q n g f d Types h i s; levels = call-passes q n g f d Levels h i s; parts = refl } )
 
-  argument-node-passes : {q n : ℕ} {xs : List Variable-record} → Home q n → Arguments r p q (Some n) xs → Passing q n
-  unfolding Passing
+  pub argument-node-passes : {q n : ℕ} {xs : List Variable-record} → Home q n → Arguments r p q (Some n) xs → Passing q n
   argument-node-passes {q = q} home (argument {n = n} {a = a} {l = l} {next = next} {x = x} {xs = ys} h d f s) =
       let o = operand q n a l (x .«data_type») _ home h (inl refl) d in
       ( _, h
@@ -305,8 +302,8 @@ module _
         { child = two _ _ (o .fits) (argument-child-passes q n next _ ys home h (among-next a next) s)
         ; scope = refl; called = refl; types = refl; levels = refl; parts = refl } )
 
-  statement-passes : {q n : ℕ} {x : Exits} → Home q n → Statement r p q n x → Passing q n
-  unfolding Passing below
+  pub statement-passes : {q n : ℕ} {x : Exits} → Home q n → Statement r p q n x → Passing q n
+  unfolding below
   statement-passes {q = q} {n = n} home (expression {a = a} {l = l} {t = t} h d) =
       let o = operand q n a l t _ home h (inl refl) d in
       (_, h, record { child = o .fits; scope = refl; called = refl; types = refl; levels = refl; parts = refl })

@@ -62,19 +62,19 @@ or-told : (a b : Bool) → (not a || b) ≡ true → a ≡ true → b ≡ true
 or-told true b h e = h
 or-told false b h e = false-true e
 
-parameter-told : (q : ℕ) (u : Role) → is-parameter-of q u ≡ true → u ≡ Parameter q
+pub parameter-told : (q : ℕ) (u : Role) → is-parameter-of q u ≡ true → u ≡ Parameter q
 parameter-told q Global h = false-true h
 parameter-told q Input h = false-true h
 parameter-told q (Local o) h = false-true h
 parameter-told q (Parameter o) h = ap Parameter (eqb-true o q h)
 
-pub same-told : (a b : Bool) → same-truth a b ≡ true → a ≡ b
+same-told : (a b : Bool) → same-truth a b ≡ true → a ≡ b
 same-told true true h = refl
 same-told true false h = false-true h
 same-told false true h = false-true h
 same-told false false h = refl
 
-within-told : (f c i : ℕ) → (leb f i && ltb i (f + c)) ≡ true → Within f c i
+pub within-told : (f c i : ℕ) → (leb f i && ltb i (f + c)) ≡ true → Within f c i
 within-told f c i h = let k = and-parts (leb f i) (ltb i (f + c)) h in (leb-true f i (k .0), ltb-true i (f + c) (k .1))
 
 pub within-shown : (f c i : ℕ) → Within f c i → (leb f i && ltb i (f + c)) ≡ true

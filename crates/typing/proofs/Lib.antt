@@ -8,3 +8,4 @@ pub mod Belonging
 pub mod Reached
 pub mod Checks
 pub mod Forms
+pub mod Passed
