@@ -106,7 +106,7 @@ module _ (r : Rules) (p : Program) where
 
 -- ---- single rows
 
-passed : {X : Type 0} (b : Bool) (x : X) → unless b x ≡ None → b ≡ true
+pub passed : {X : Type 0} (b : Bool) (x : X) → unless b x ≡ None → b ≡ true
 passed true x h = refl
 passed false x h = some-none x h
 

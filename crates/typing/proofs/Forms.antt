@@ -154,7 +154,7 @@ module _ (r : Rules) (p : Program) (k : Checks r p) where
       let i = and-parts (parts-fit e x) (body-fits n (procedure-at e q) (class-of r e x)) (g .0) in
       (record { child = a .0; scope = b .0; called = c .0; types = d .0; levels = f .0; parts = i .0 }, i .1)
 
-  passes-row : (n : ℕ) (x : Node) → Node-is p n x → Passes r (below r p n) n (home p n) x
+  pub passes-row : (n : ℕ) (x : Node) → Node-is p n x → Passes r (below r p n) n (home p n) x
   passes-row n x h = rows-told (below r p n) n (home p n) x (k .nodes n x h) .0
 
   -- each child of a list lies below node n, in its procedure

@@ -11,3 +11,4 @@ pub mod Forms
 pub mod Passed
 pub mod Files
 pub mod Acceptance
+pub mod Theorems

@@ -130,13 +130,13 @@ module _ (r : Rules) (p : Program) (w : Well-formed r p) (t : Well-typed r p) wh
   some : 1 ≤ length (p .procedures)
   some = w .some-procedures
 
-  rises : (o q : ℕ) (b d : Procedure) → o < q → Procedure-is p o b → Procedure-is p q d → b .body < d .body
+  pub rises : (o q : ℕ) (b d : Procedure) → o < q → Procedure-is p o b → Procedure-is p q d → b .body < d .body
   rises o q b d lt h i = w .procedures q d i .rises o b lt h
 
-  last : (q : ℕ) (d : Procedure) → Procedure-is p q d → suc q ≡ length (p .procedures) → suc (d .body) ≡ length (p .nodes)
+  pub last : (q : ℕ) (d : Procedure) → Procedure-is p q d → suc q ≡ length (p .procedures) → suc (d .body) ≡ length (p .nodes)
   last q d h = w .procedures q d h .main-last
 
-  beside : (n m : ℕ) (x : Node) → Node-is p n x → Among m (children x) → home p m ≡ home p n
+  pub beside : (n m : ℕ) (x : Node) → Node-is p n x → Among m (children x) → home p m ≡ home p n
   beside n m x h c =
       let lt = at-below no-node (p .nodes) n x h in
       let less = w .below n m x h c in
