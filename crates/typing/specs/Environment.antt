@@ -33,18 +33,33 @@ procedure-at e q = at no-procedure (e .procedures) q
 abbrev pub node-at : Environment → ℕ → Option TypedNode
 node-at e n = at no-typed-node (e .nodes) n
 
--- the data type of an expression; a void call has none
+-- the data type of an expression, which a void call has not; its level; and the exits of a statement
+abbrev pub class-type : Class → Option DataType
+class-type (Value t l) = t
+class-type Argument = None
+class-type (Statement x) = None
+
+abbrev pub class-level : Class → ℕ
+class-level (Value t l) = l
+class-level Argument = 0
+class-level (Statement x) = 0
+
+abbrev pub class-exits : Class → Exits
+class-exits (Value t l) = falling
+class-exits Argument = falling
+class-exits (Statement x) = x
+
 abbrev pub type-in : Option TypedNode → Option DataType
 type-in None = None
-type-in (Some n) = elim (n .class) [ Value t l ↦ t | Argument ↦ None | Statement x ↦ None ]
+type-in (Some n) = class-type (n .class)
 
 abbrev pub level-in : Option TypedNode → ℕ
 level-in None = 0
-level-in (Some n) = elim (n .class) [ Value t l ↦ l | Argument ↦ 0 | Statement x ↦ 0 ]
+level-in (Some n) = class-level (n .class)
 
 abbrev pub exits-in : Option TypedNode → Exits
 exits-in None = falling
-exits-in (Some n) = elim (n .class) [ Value t l ↦ falling | Argument ↦ falling | Statement x ↦ x ]
+exits-in (Some n) = class-exits (n .class)
 
 abbrev pub type-of : Environment → ℕ → Option DataType
 type-of e n = type-in (node-at e n)

@@ -20,7 +20,7 @@ use Rattle.program.specs.declared.records.Variable.{Variable as Variable-record
 use Rattle.program.specs.declared.records.Procedure.{Procedure}
 use Rattle.program.specs.declared.refusal.Refusal.{Refusal}
 use Rattle.program.specs.declared.refusal.Refusal.the-variants.{Child as Bad-child, Scope as Bad-scope, Call as Bad-call, DataType as Bad-type, Level as Bad-level, Exits as Bad-exits}
-use Rattle.typing.specs.Environment.{Environment, variable-at, procedure-at, node-at, type-of, level-of, exits-of, exits-in}
+use Rattle.typing.specs.Environment.{Environment, variable-at, procedure-at, node-at, type-of, level-of, exits-of, class-exits}
 use Rattle.typing.specs.Classes.{class-of}
 use Rattle.typing.specs.declared.classes.Exits.{Exits}
 use Rattle.typing.specs.declared.classes.Class.{Class}
@@ -403,13 +403,10 @@ abbrev pub body-exits-fit : Option DataType → Exits → Bool
 body-exits-fit None x = not (x .breaks) && not (x .continues)
 body-exits-fit (Some t) x = x .returns && not (x .falls) && not (x .breaks) && not (x .continues)
 
-abbrev exits-in-class : Class → Exits
-exits-in-class c = exits-in (Some (record { node = Break; procedure = 0; class = c }))
-
 -- the demand on a body, tested at the node that is one
 abbrev pub body-fits : ℕ → Option Procedure → Class → Bool
 body-fits k None c = true
-body-fits k (Some d) c = cond (eqb (d .body) k) (body-exits-fit (d .result) (exits-in-class c)) true
+body-fits k (Some d) c = cond (eqb (d .body) k) (body-exits-fit (d .result) (class-exits c)) true
 
 abbrev pub exits-fit : Rules → Environment → ℕ → ℕ → Node → Bool
 exits-fit r e k q n = parts-fit e n && body-fits k (procedure-at e q) (class-of r e n)

@@ -1,0 +1,14 @@
+// The static check of a program file, into tables whose memory is reserved once.
+// An internal crate: hosts use `script` or the program `pool`.
+pub mod tables;
+mod memory;
+mod lookups;
+mod children;
+mod scope;
+mod arguments;
+mod calls;
+mod operators;
+mod data_types;
+mod flows;
+mod exits;
+mod class;
