@@ -12,3 +12,4 @@ mod data_types;
 mod flows;
 mod exits;
 mod class;
+mod rows;
