@@ -1,1 +1,2 @@
 pub mod Further
+pub mod Answered

@@ -13,3 +13,4 @@ mod flows;
 mod exits;
 mod class;
 mod rows;
+mod variables;
