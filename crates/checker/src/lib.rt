@@ -14,3 +14,4 @@ mod exits;
 mod class;
 mod rows;
 mod variables;
+mod procedures;
