@@ -1,3 +1,5 @@
 pub mod Further
 pub mod Answered
 pub mod Taken
+pub mod Running
+pub mod Views

@@ -15,3 +15,5 @@ mod class;
 mod rows;
 mod variables;
 mod procedures;
+mod bodies;
+mod nodes;
