@@ -3,3 +3,4 @@ pub mod Answered
 pub mod Taken
 pub mod Running
 pub mod Views
+pub mod Marks

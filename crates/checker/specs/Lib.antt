@@ -1,3 +1,4 @@
 pub mod View
 pub mod Operators
 pub mod Records
+pub mod Names

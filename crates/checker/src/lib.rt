@@ -17,3 +17,4 @@ mod variables;
 mod procedures;
 mod bodies;
 mod nodes;
+mod names;
