@@ -11,11 +11,11 @@ use Rattle.typing.specs.First.{first, table}
 use Rattle.typing.proofs.Rising.{first-more, first-found, table-more}
 use Rattle.checker.specs.Records.{checked}
 
-fault-at-err : {X : Type 0} (x : X) (o : Option Refusal) (e : Refusal) → Err e ≡ checked x o → o ≡ Some e
+pub fault-at-err : {X : Type 0} (x : X) (o : Option Refusal) (e : Refusal) → Err e ≡ checked x o → o ≡ Some e
 fault-at-err x None e h = let z : _≡_ {A = ℕ} 0 1 = cc in absurd (omega arith)
 fault-at-err x (Some f) e h = cc
 
-none-at-ok : {X : Type 0} (x y : X) (o : Option Refusal) → Ok y ≡ checked x o → (o ≡ None) × (y ≡ x)
+pub none-at-ok : {X : Type 0} (x y : X) (o : Option Refusal) → Ok y ≡ checked x o → (o ≡ None) × (y ≡ x)
 none-at-ok x y None h = (refl, cc)
 none-at-ok x y (Some f) h = let z : _≡_ {A = ℕ} 0 1 = cc in absurd (omega arith)
 

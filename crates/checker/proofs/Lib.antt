@@ -4,3 +4,4 @@ pub mod Taken
 pub mod Running
 pub mod Views
 pub mod Marks
+pub mod Parts

@@ -18,3 +18,5 @@ mod procedures;
 mod bodies;
 mod nodes;
 mod names;
+pub mod fill;
+pub mod verdict;
