@@ -14,10 +14,10 @@ use lib.Seq.{getD-set-same, getD-set-other}
 use Rattle.std.proofs.shelf.Sums.{folded-more}
 use Rattle.std.proofs.shelf.Tests.{eqb-true, eqb-false, lt-ltb}
 use Rattle.std.specs.Iters.{folded}
-use Rattle.program.specs.Program.{children}
+use Rattle.program.specs.Program.{children, times-in}
 use Rattle.program.specs.declared.records.Procedure.{Procedure}
 use Rattle.program.specs.declared.refusal.Refusal.the-variants.{Naming as Bad-naming}
-use Rattle.typing.specs.Faults.{times-in, times-named, is-body, name-fault}
+use Rattle.typing.specs.Faults.{times-named, is-body, name-fault}
 use Rattle.typing.specs.First.{first, unless}
 use Rattle.typing.specs.declared.classes.TypedNode.{TypedNode}
 use Rattle.typing.proofs.Rising.{first-same}

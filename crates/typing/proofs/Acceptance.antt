@@ -16,7 +16,7 @@ use Rattle.levels.specs.Rules.{Rules}
 use Rattle.program.proofs.Files.{counts-of}
 use Rattle.program.proofs.Statements.{statement-node, kind-of-statement}
 use Rattle.program.specs.Decode.{is-statement-kind}
-use Rattle.program.specs.Program.{Program, at, children, no-node, no-variable, no-procedure}
+use Rattle.program.specs.Program.{Program, at, children, times-in, no-node, no-variable, no-procedure}
 use Rattle.program.specs.declared.layout.Layout.{Layout}
 use Rattle.program.specs.declared.records.Node.{Node}
 use Rattle.program.specs.declared.records.Variable.{Variable}
@@ -24,7 +24,7 @@ use Rattle.program.specs.declared.records.Procedure.{Procedure}
 use Rattle.program.specs.declared.refusal.Refusal.{Refusal}
 use Rattle.program.specs.declared.refusal.Refusal.the-variants.{Naming as Bad-naming}
 use Rattle.typing.specs.Environment.{Environment, procedure-of, body-in}
-use Rattle.typing.specs.Faults.{known, node-record, variable-record, procedure-record, variables-in, procedures-in, variable-part, procedure-part, file-variables, file-procedures, file-nodes, environment, typed-node, typed-nodes, variable-fits, variable-fault, result-fits, parameters-fit, rises, body-stands, main-fits, procedure-rows, procedure-fault, record-fault, node-fault, times-in, times-named, is-body, name-fault, records-fault}
+use Rattle.typing.specs.Faults.{known, node-record, variable-record, procedure-record, variables-in, procedures-in, variable-part, procedure-part, file-variables, file-procedures, file-nodes, environment, typed-node, typed-nodes, variable-fits, variable-fault, result-fits, parameters-fit, rises, body-stands, main-fits, procedure-rows, procedure-fault, record-fault, node-fault, times-named, is-body, name-fault, records-fault}
 use Rattle.typing.specs.First.{or-else, unless, first, table}
 use Rattle.typing.specs.Formed.{times-child}
 use Rattle.typing.specs.Rows.{first-broken, node-rows}

@@ -12,12 +12,12 @@ use Rattle.std.specs.declared.option.Option.{Option}
 use Rattle.std.specs.declared.option.Option.the-variants.{Some, None}
 use Rattle.words.specs.declared.types.DataType.{DataType}
 use Rattle.levels.specs.Rules.{Rules}
-use Rattle.program.specs.Program.{Program, children, no-node}
+use Rattle.program.specs.Program.{Program, children, times-in, no-node}
 use Rattle.program.specs.declared.records.Node.{Node}
 use Rattle.program.specs.declared.records.Node.the-variants.{Call, Argument as Argument-node}
 use Rattle.program.specs.declared.records.Variable.{Variable as Variable-record}
 use Rattle.program.specs.declared.records.Procedure.{Procedure}
-use Rattle.typing.specs.Faults.{times-in, is-body}
+use Rattle.typing.specs.Faults.{is-body}
 use Rattle.typing.specs.Formed.{Among, Belongs, Is-body, times-child}
 use Rattle.typing.specs.Typing.{Node-is, Procedure-is, Body, Well-typed, parameters-of, Expression, Arguments, Void-call, Statement, constant, variable, minus, not, arithmetic, comparison, and, or, choice, assignment, call, release, none, argument, void-call, expression, procedure-call, sequence, if, if-else, while, do-while, return, return-void, break, continue, definition, output}
 use Rattle.typing.specs.declared.classes.Exits.{Exits}

@@ -23,7 +23,7 @@ use Rattle.program.proofs.Recoded.{Plain-node, decoded-bool}
 use Rattle.program.specs.Encode.{encoded}
 use Rattle.program.specs.Fields.{node-fields-of}
 use Rattle.program.specs.Layout.{layout-of}
-use Rattle.program.specs.Program.{Program, children, no-node, no-variable, no-procedure}
+use Rattle.program.specs.Program.{Program, children, times-in, no-node, no-variable, no-procedure}
 use Rattle.program.specs.declared.layout.Layout.{Layout}
 use Rattle.program.specs.declared.records.Node.{Node}
 use Rattle.program.specs.declared.records.Node.the-variants.{Constant, Call, Argument}
@@ -31,9 +31,10 @@ use Rattle.program.specs.declared.records.Variable.{Variable}
 use Rattle.program.specs.declared.records.Procedure.{Procedure}
 use Rattle.program.specs.declared.refusal.Refusal.{Refusal}
 use Rattle.typing.specs.Environment.{Environment}
-use Rattle.typing.specs.Faults.{known, node-record, variable-record, procedure-record, variable-part, procedure-part, file-variables, file-procedures, file-nodes, variable-fits, variable-fault, result-fits, procedure-rows, procedure-fault, record-fault, node-fault, name-fault, times-in, records-fault, layout-fault, first-fault, verdict-by, verdict-of}
+use Rattle.typing.specs.Faults.{known, node-record, variable-record, procedure-record, variable-part, procedure-part, file-variables, file-procedures, file-nodes, variable-fits, variable-fault, result-fits, procedure-rows, procedure-fault, record-fault, node-fault, name-fault, records-fault, layout-fault, first-fault, verdict-by, verdict-of}
 use Rattle.typing.specs.First.{or-else, unless, first, table}
-use Rattle.typing.specs.Formed.{Belongs, Among, times-child, Is-body, Well-formed, Accepted, Bytes, Decides-acceptance, Unique, Shaped, Sound-acceptance}
+use Rattle.typing.specs.Acceptance.{Bytes, Decides-acceptance, Unique, Shaped, Sound-acceptance}
+use Rattle.typing.specs.Formed.{Belongs, Among, times-child, Is-body, Well-formed, Accepted}
 use Rattle.typing.specs.Typing.{Node-is, Variable-is, Procedure-is, Expression, Statement, Well-typed, constant, variable, minus, not, arithmetic, comparison, and, or, choice, assignment, call, release}
 use Rattle.typing.specs.declared.classes.Class.the-variants.{Value, Statement as Statement-class}
 use Rattle.typing.specs.declared.classes.Exits.{Exits}
@@ -237,7 +238,7 @@ module _ (r : Rules) (p : Program) (w : Well-formed r p) (t : Well-typed r p) wh
   levels k (call {g = g} {d = d} h lt i u s) = w .procedures g d i .level
   levels k (release h d) = k .public-level
 
-pub sound-acceptance : (r : Rules) → Sound-acceptance r
+pub sound-acceptance : (r : Rules) → Lawful r → Sound-acceptance r
 sound-acceptance r k bs a =
     let p = a .program in
     let w = a .formed in

@@ -13,7 +13,7 @@ use Rattle.levels.specs.Rules.{Rules}
 use Rattle.program.specs.Decode.{node-decoded, variable-decoded, procedure-decoded, is-statement-kind}
 use Rattle.program.specs.Fields.{node-fields-of, variable-fields-of, procedure-fields-of}
 use Rattle.program.specs.Layout.{layout-of}
-use Rattle.program.specs.Program.{at, children, no-node, no-variable, no-procedure}
+use Rattle.program.specs.Program.{at, children, times-in, no-node, no-variable, no-procedure}
 use Rattle.program.specs.declared.layout.Layout.{Layout}
 use Rattle.program.specs.declared.records.Node.{Node}
 use Rattle.program.specs.declared.records.Role.{Role}
@@ -144,11 +144,6 @@ node-fault r vs ds bs k =
     record-fault r (environment vs ds (typed-nodes r vs ds bs k)) k (procedure-of ds k) (node-record bs k)
 
 -- ---- row 17, at node k
-
--- how often a number stands in a list
-abbrev pub times-in : ℕ → List ℕ → ℕ
-times-in k [] = 0
-times-in k (x ∷ xs) = cond (eqb x k) 1 0 + times-in k xs
 
 -- how often node k is named as a child
 abbrev pub times-named : ℕ → List TypedNode → ℕ
