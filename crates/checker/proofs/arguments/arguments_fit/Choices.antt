@@ -1,0 +1,10 @@
+use Prim.Native.Nat.{_+_, _-_}
+use mathlib.Core.Path.{_≡_}
+use Rattle.typing.specs.Rows.{arguments-fit}
+use Rattle.checker.specs.View.{view}
+use Rattle.checker.proofs.arguments.arguments_fit.Given as given
+
+abbrev pub Inv-loop-i : given.InvT-loop-i
+Inv-loop-i g l =
+    arguments-fit (g .L·Levels .rules) (view (l .tables)) (l .test) (l .parameters) (l .first-parameter) (l .entry .next)
+    ≡ arguments-fit (g .L·Levels .rules) (view (l .tables)) (l .test) (l .parameters - l .i) (l .first-parameter + l .i) (l .next)

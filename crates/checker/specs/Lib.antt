@@ -1,0 +1,4 @@
+pub mod View
+pub mod Operators
+pub mod Records
+pub mod Names

@@ -1,0 +1,32 @@
+// Row 15: levels.
+ghost use mathlib.Core.Path.{_≡_};
+ghost use Rattle.typing.specs.Rows.{is-public, levels-fit};
+ghost use Rattle.checker.specs.View.{view};
+use crate::arguments::call_fits;
+use crate::tables::Tables;
+use levels::Levels;
+use program::records::Node;
+use typing::rows::ArgumentTest;
+
+fn is_public(tables: &Tables, node: u16) -> bool
+    ensures { λ r. ⌜ r ≡ is-public (view (now (tables .entry))) node ⌝ }
+{
+    tables.level(node) == 0
+}
+
+pub fn levels_fit<L: Levels>(levels: &L, tables: &Tables, procedure: u16, node: Node) -> bool
+    ensures { λ r. ⌜ r ≡ levels-fit (L·Levels .rules) (view (now (tables .entry))) procedure node ⌝ }
+{
+    match node {
+        Node::Choice { condition: a, .. }
+        | Node::If { condition: a, .. }
+        | Node::IfElse { condition: a, .. }
+        | Node::While { condition: a, .. }
+        | Node::DoWhile { condition: a, .. }
+        | Node::Output { operand: a } => is_public(tables, a),
+        Node::Assignment { variable, value } => levels.flows(tables.level(value), tables.variable_level(variable as usize)),
+        Node::Call { procedure: called, first } => call_fits(levels, tables, ArgumentTest::Level, called, first),
+        Node::Return { value } => levels.flows(tables.level(value), tables.result_level(procedure)),
+        _ => true,
+    }
+}

@@ -1,0 +1,57 @@
+// Row 12: a variable that is named is there, and of this procedure if it is a local or a parameter.
+ghost use mathlib.Core.Path.{_≡_};
+ghost use Rattle.typing.specs.Environment.{variable-at};
+ghost use Rattle.typing.specs.Rows.{readable, assignable, definable, scope-fits};
+ghost use Rattle.checker.specs.View.{view};
+use crate::tables::Tables;
+use program::records::Node;
+use program::records::Role;
+use program::records::Variable;
+
+fn may_read(procedure: u16, variable: Option<Variable>) -> bool
+    ensures { λ r. ⌜ r ≡ readable procedure variable ⌝ }
+{
+    let Some(variable) = variable else {
+        return false;
+    };
+    match variable.role {
+        Role::Global | Role::Input => true,
+        Role::Local { procedure: owner } | Role::Parameter { procedure: owner } => owner == procedure,
+    }
+}
+
+fn may_assign(procedure: u16, variable: Option<Variable>) -> bool
+    ensures { λ r. ⌜ r ≡ assignable procedure variable ⌝ }
+{
+    let Some(variable) = variable else {
+        return false;
+    };
+    match variable.role {
+        Role::Global | Role::Input => true,
+        Role::Local { procedure: owner } => owner == procedure,
+        Role::Parameter { .. } => false,
+    }
+}
+
+fn may_define(procedure: u16, variable: Option<Variable>) -> bool
+    ensures { λ r. ⌜ r ≡ definable procedure variable ⌝ }
+{
+    let Some(variable) = variable else {
+        return false;
+    };
+    match variable.role {
+        Role::Local { procedure: owner } => owner == procedure,
+        Role::Global | Role::Input | Role::Parameter { .. } => false,
+    }
+}
+
+pub fn scope_fits(tables: &Tables, procedure: u16, node: Node) -> bool
+    ensures { λ r. ⌜ r ≡ scope-fits (view (now (tables .entry))) procedure node ⌝ }
+{
+    match node {
+        Node::Variable { variable } => may_read(procedure, tables.variable(variable as usize)),
+        Node::Assignment { variable, .. } => may_assign(procedure, tables.variable(variable as usize)),
+        Node::Definition { variable } => may_define(procedure, tables.variable(variable as usize)),
+        _ => true,
+    }
+}

@@ -1,0 +1,6 @@
+pub mod Fields
+pub mod Refusals
+pub mod Decode
+pub mod Layout
+pub mod Program
+pub mod Encode
