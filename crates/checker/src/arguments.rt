@@ -19,12 +19,21 @@ fn argument(tables: &Tables, number: Option<u16>) -> Option<(u16, Option<u16>)>
     }
 }
 
-fn argument_fits<L: Levels>(levels: &L, tables: &Tables, test: ArgumentTest, parameter: usize, value: u16) -> bool
+fn argument_fits<L: Levels>(
+    levels: &L,
+    tables: &Tables,
+    test: ArgumentTest,
+    parameter: usize,
+    value: u16,
+) -> bool
     ensures { λ r. ⌜ r ≡ argument-fits (L·Levels .rules) (view (now (tables .entry))) test parameter value ⌝ }
 {
     match test {
         ArgumentTest::Number => true,
-        ArgumentTest::DataType => same_type(tables.data_type(value), tables.variable_type(parameter)),
+        ArgumentTest::DataType => same_type(
+            tables.data_type(value),
+            tables.variable_type(parameter),
+        ),
         ArgumentTest::Level => levels.flows(tables.level(value), tables.variable_level(parameter)),
     }
 }
@@ -45,7 +54,13 @@ fn arguments_fit<L: Levels>(
         let Some((value, after)) = argument(tables, next) else {
             return false;
         };
-        if !argument_fits(levels, tables, test, first_parameter as usize + i as usize, value) {
+        if !argument_fits(
+            levels,
+            tables,
+            test,
+            first_parameter as usize + i as usize,
+            value,
+        ) {
             return false;
         }
         next = after;
@@ -53,11 +68,24 @@ fn arguments_fit<L: Levels>(
     next.is_none()
 }
 
-pub fn call_fits<L: Levels>(levels: &L, tables: &Tables, test: ArgumentTest, procedure: u16, first: Option<u16>) -> bool
+pub(crate) fn call_fits<L: Levels>(
+    levels: &L,
+    tables: &Tables,
+    test: ArgumentTest,
+    procedure: u16,
+    first: Option<u16>,
+) -> bool
     ensures { λ r. ⌜ r ≡ call-fits (L·Levels .rules) (view (now (tables .entry))) test (procedure-at (view (now (tables .entry))) procedure) first ⌝ }
 {
     match tables.procedure(procedure) {
-        Some(called) => arguments_fit(levels, tables, test, called.parameters, called.first_parameter, first),
+        Some(called) => arguments_fit(
+            levels,
+            tables,
+            test,
+            called.parameters,
+            called.first_parameter,
+            first,
+        ),
         None => false,
     }
 }

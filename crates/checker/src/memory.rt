@@ -17,7 +17,12 @@ impl Tables {
         let procedures = Vec::with_capacity(heap, 32)?;
         let nodes = Vec::with_capacity(heap, 1024)?;
         let names = Vec::with_capacity(heap, 1024)?;
-        Ok(Tables { variables, procedures, nodes, names })
+        Ok(Tables {
+            variables,
+            procedures,
+            nodes,
+            names,
+        })
     }
 
     pub(crate) fn clear(&mut self)

@@ -31,7 +31,7 @@ no-variable = record { role = Global; «data_type» = Boolean; level = 0 }
 abbrev pub no-procedure : Procedure
 no-procedure = record { result = None; parameters = 0; «first_parameter» = 0; body = 0; level = 0 }
 
-abbrev optional : Option ℕ → List ℕ
+abbrev pub optional : Option ℕ → List ℕ
 optional None = []
 optional (Some k) = k ∷ []
 

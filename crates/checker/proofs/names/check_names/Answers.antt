@@ -20,10 +20,10 @@ returns c =
     let ns = vec-items (c .args .tables .now .nodes) in
     record {
       value =
-        c .check-counts .ensures
-        ∙ ap (λ (ms : List Naming). checked tt (first (count-fault ds ms) (length ms))) (c .mark-names .ensures .items ∙ ap names-of (c .deref .ensures .value))
-        ∙ ap (checked tt) (counts-say ds ns);
+          c .check-counts .ensures
+          ∙ ap (λ (ms : List Naming). checked tt (first (count-fault ds ms) (length ms))) (c .mark-names .ensures .items ∙ ap names-of (c .deref .ensures .value))
+          ∙ ap (checked tt) (counts-say ds ns);
       variables = refl;
       procedures = refl;
-      nodes = refl
+      nodes = refl;
     }
