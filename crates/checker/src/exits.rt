@@ -1,6 +1,5 @@
 // Row 16: a sequence goes on after its first part, a loop after its body, and a procedure's body ends as its result asks.
 ghost use mathlib.Core.Path.{_≡_};
-ghost use Rattle.typing.specs.Environment.{procedure-at};
 ghost use Rattle.typing.specs.Exits.{union, sequence-exits, loop-exits};
 ghost use Rattle.typing.specs.Rows.{repeats, parts-fit, body-exits-fit, body-fits, exits-fit};
 ghost use Rattle.checker.specs.View.{view};

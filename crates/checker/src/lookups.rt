@@ -13,7 +13,7 @@ use typing::classes::TypedNode;
 use words::types::DataType;
 
 impl Tables {
-    pub fn variable(&self, number: usize) -> Option<Variable>
+    pub(crate) fn variable(&self, number: usize) -> Option<Variable>
         ensures { λ r. ⌜ r ≡ variable-at (view (now (self .entry))) number ⌝ }
     {
         if number < self.variables.len() {
@@ -23,7 +23,7 @@ impl Tables {
         }
     }
 
-    pub fn procedure(&self, number: u16) -> Option<Procedure>
+    pub(crate) fn procedure(&self, number: u16) -> Option<Procedure>
         ensures { λ r. ⌜ r ≡ procedure-at (view (now (self .entry))) number ⌝ }
     {
         let number = number as usize;
@@ -34,7 +34,7 @@ impl Tables {
         }
     }
 
-    pub fn node(&self, number: u16) -> Option<TypedNode>
+    pub(crate) fn node(&self, number: u16) -> Option<TypedNode>
         ensures { λ r. ⌜ r ≡ node-at (view (now (self .entry))) number ⌝ }
     {
         let number = number as usize;

@@ -10,17 +10,17 @@ use words::types::DataType;
 
 // A row for each of + - * / % == != < <= > >=, and a column for bool, int and unsigned.
 const ALLOWED: [[bool; 3]; 11] = [
-    [false, true, true],
-    [false, true, true],
-    [false, true, true],
-    [false, true, true],
-    [false, true, true],
-    [true, true, true],
-    [true, true, true],
-    [false, true, true],
-    [false, true, true],
-    [false, true, true],
-    [false, true, true],
+    [false, true, true], // +
+    [false, true, true], // -
+    [false, true, true], // *
+    [false, true, true], // /
+    [false, true, true], // %
+    [true, true, true], // ==
+    [true, true, true], // !=
+    [false, true, true], // <
+    [false, true, true], // <=
+    [false, true, true], // >
+    [false, true, true], // >=
 ];
 
 fn column(data_type: DataType) -> usize

@@ -1,6 +1,5 @@
 // Row 12: a variable that is named is there, and of this procedure if it is a local or a parameter.
 ghost use mathlib.Core.Path.{_≡_};
-ghost use Rattle.typing.specs.Environment.{variable-at};
 ghost use Rattle.typing.specs.Rows.{readable, assignable, definable, scope-fits};
 ghost use Rattle.checker.specs.View.{view};
 use crate::tables::Tables;

@@ -1,3 +1,4 @@
+-- The answers of the parts, in order, make that of the records.
 use native.Mathlib.Omega.{arith}
 use mathlib.Core.Path.{_∙_, ap}
 use lib.ListN.{length}

@@ -1,3 +1,4 @@
+-- The layout and the answer of the records make the verdict.
 use Rattle.std.proofs.shelf.Results.{err-from-errBy}
 use Rattle.checker.proofs.Parts.{unread, refused, accepted}
 use Rattle.checker.proofs.fill.fill.Needs as need

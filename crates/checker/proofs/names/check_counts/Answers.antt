@@ -1,7 +1,8 @@
+-- One node further, by whether it is well named.
 use Prim.Native.Nat.{ℕ, _<_}
 use native.Mathlib.Omega.{arith}
 use mathlib.Core.Bool.{Bool, _||_}
-use mathlib.Core.Path.{_≡_, sym, _∙_, ap}
+use mathlib.Core.Path.{sym, _∙_, ap}
 use lib.ListN.{getD, length}
 use Rattle.std.specs.Of.Vec.{vec-items}
 use Rattle.program.specs.declared.refusal.Refusal.the-variants.{Naming as Bad-naming}

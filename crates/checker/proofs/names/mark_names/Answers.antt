@@ -1,3 +1,4 @@
+-- One node further, by its children.
 use mathlib.Core.Path.{_∙_, ap}
 use lib.ListN.{length, replicate}
 use lib.Seq.{take-all}

@@ -1,3 +1,4 @@
+-- One node record further, by its fault.
 use native.Mathlib.Omega.{arith}
 use Prim.Native.Nat.{suc}
 use mathlib.Core.Bool.{cond}
@@ -12,7 +13,6 @@ use Rattle.typing.specs.Environment.{procedure-of}
 use Rattle.typing.specs.Faults.{known, environment, node-record, typed-node, typed-nodes, node-fault}
 use Rattle.typing.proofs.Rising.{first-none, table-none, length-table, drop-record}
 use Rattle.checker.specs.Records.{is-body-of}
-use Rattle.checker.specs.View.{view}
 use Rattle.checker.proofs.Answered.{stops, goes-on, grows}
 use Rattle.checker.proofs.Running.{procedure-none, procedure-more, procedure-below}
 use Rattle.checker.proofs.Taken.{node-fault-taken, typed-node-taken}

@@ -1,3 +1,4 @@
+-- One row further, by whether the node passes it.
 use mathlib.Core.Path.{sym, _∙_, ap}
 use Rattle.std.specs.declared.option.Option.the-variants.{Some}
 use Rattle.typing.specs.Rows.{node-rows}

@@ -1,3 +1,4 @@
+-- The first broken row is the first of the rows that are left.
 use mathlib.Core.Path.{_≡_}
 use lib.ListN.{drop}
 use Rattle.typing.specs.Rows.{node-rows, first-broken}
