@@ -1,3 +1,4 @@
+-- The lemmas of this crate, by topic.
 pub mod Further
 pub mod Answered
 pub mod Taken

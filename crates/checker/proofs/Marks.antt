@@ -2,7 +2,6 @@
 use Prim.Native.Nat.{ℕ, zero, suc, _+_, _<_}
 use native.Mathlib.Nat.{add-zero, zero-add, add-assoc}
 use native.Mathlib.Numerals.{add-one}
-use native.Mathlib.Omega.{arith}
 use borrow.Author.Needs.{needs}
 use mathlib.Core.Bool.{Bool, true, false, cond, _||_}
 use mathlib.Core.List.{List, [], _∷_, _++_}
@@ -103,7 +102,7 @@ pub counts-say : (ds : List Procedure) (ns : List TypedNode) → first (count-fa
 counts-say ds ns =
     ap (first (count-fault ds (names-of ns))) (length-names ns)
     ∙ first-same (count-fault ds (names-of ns)) (name-fault ds ns) (length ns)
-      (λ k lt. ap (λ (b : Bool). unless (is-body ds k || b) (Bad-naming k)) (ap is-once (names-at ns k lt) ∙ once-tally (times-named k ns)))
+    (λ k lt. ap (λ (b : Bool). unless (is-body ds k || b) (Bad-naming k)) (ap is-once (names-at ns k lt) ∙ once-tally (times-named k ns)))
 
 -- one node further, from any counts ms before
 pub marked-more : (ms : List Naming) (ns : List TypedNode) (i : ℕ) (d : TypedNode) (xs : List Naming) → i < length ns → xs ≡ folded marked-by ms (take i ns) → marked-all xs (children (getD ns i d .node)) ≡ folded marked-by ms (take (i + 1) ns)

@@ -87,10 +87,10 @@ module _ (r : Rules) (l : Layout) (bs : List ℕ) where
         ends-at-names nodes-pass es e ns n z h =
             goes-past-variables _ _
             (past u u _ _ _ (procedures-answer (Ok u) procedures-pass)
-              (past u u _ _ _ (nodes-answer (Ok u) nodes-pass)
-                (h ∙ ap (λ (ms : List TypedNode). checked u (first (name-fault es ms) (length ms))) n
-                  ∙ ap (λ (xs : List Procedure). checked u (first (name-fault xs (file-nodes r l bs)) (length (file-nodes r l bs)))) e
-                  ∙ ap (λ (k : ℕ). checked u (first (name-fault (file-procedures l bs) (file-nodes r l bs)) k)) length-nodes)))
+            (past u u _ _ _ (nodes-answer (Ok u) nodes-pass)
+            (h ∙ ap (λ (ms : List TypedNode). checked u (first (name-fault es ms) (length ms))) n
+            ∙ ap (λ (xs : List Procedure). checked u (first (name-fault xs (file-nodes r l bs)) (length (file-nodes r l bs)))) e
+            ∙ ap (λ (k : ℕ). checked u (first (name-fault (file-procedures l bs) (file-nodes r l bs)) k)) length-nodes)))
 
 -- the answer of a file, from its layout and the answer of its records
 pub unread : (r : Rules) (bs : List ℕ) (e : Refusal) → Err e ≡ layout-of bs → Err e ≡ verdict-of r bs

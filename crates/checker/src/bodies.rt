@@ -6,7 +6,7 @@ ghost use Rattle.std.specs.Of.Vec.{vec-items};
 ghost use Rattle.checker.specs.Records.{is-body-of};
 use crate::tables::Tables;
 
-pub fn is_body_of(tables: &Tables, procedure: u16, place: u16) -> bool
+pub(crate) fn is_body_of(tables: &Tables, procedure: u16, place: u16) -> bool
     ensures { λ r. ⌜ r ≡ is-body-of (vec-items (now (tables .entry) .procedures)) procedure place ⌝ }
 {
     match tables.procedure(procedure) {
@@ -16,9 +16,13 @@ pub fn is_body_of(tables: &Tables, procedure: u16, place: u16) -> bool
 }
 
 // The procedure of the node after the one at `place`, which belongs to `procedure`.
-pub fn next_procedure(tables: &Tables, procedure: u16, place: u16) -> u16
+pub(crate) fn next_procedure(tables: &Tables, procedure: u16, place: u16) -> u16
     requires { ⌜ procedure < 65535 ⌝ }
     ensures { λ r. ⌜ r ≡ cond (is-body-of (vec-items (now (tables .entry) .procedures)) procedure place) (suc procedure) procedure ⌝ }
 {
-    if is_body_of(tables, procedure, place) { procedure + 1 } else { procedure }
+    if is_body_of(tables, procedure, place) {
+        procedure + 1
+    } else {
+        procedure
+    }
 }

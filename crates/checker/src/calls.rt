@@ -8,11 +8,12 @@ use levels::Levels;
 use program::records::Node;
 use typing::rows::ArgumentTest;
 
-pub fn calls_fit<L: Levels>(levels: &L, tables: &Tables, procedure: u16, node: Node) -> bool
-    ensures { λ r. ⌜ r ≡ calls-fit (L·Levels .rules) (view (now (tables .entry))) procedure node ⌝ }
+pub(crate) fn calls_fit<L: Levels>(levels: &L, tables: &Tables, current: u16, node: Node) -> bool
+    ensures { λ r. ⌜ r ≡ calls-fit (L·Levels .rules) (view (now (tables .entry))) current node ⌝ }
 {
     match node {
-        Node::Call { procedure: called, first } => called < procedure && call_fits(levels, tables, ArgumentTest::Number, called, first),
+        Node::Call { procedure, first } => procedure < current
+            && call_fits(levels, tables, ArgumentTest::Number, procedure, first),
         _ => true,
     }
 }

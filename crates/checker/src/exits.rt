@@ -1,6 +1,5 @@
 // Row 16: a sequence goes on after its first part, a loop after its body, and a procedure's body ends as its result asks.
 ghost use mathlib.Core.Path.{_≡_};
-ghost use Rattle.typing.specs.Environment.{procedure-at};
 ghost use Rattle.typing.specs.Exits.{union, sequence-exits, loop-exits};
 ghost use Rattle.typing.specs.Rows.{repeats, parts-fit, body-exits-fit, body-fits, exits-fit};
 ghost use Rattle.checker.specs.View.{view};
@@ -13,13 +12,36 @@ use typing::classes::Class;
 use typing::classes::Exits;
 use words::types::DataType;
 
-pub const FALLING: Exits = Exits { falls: true, returns: false, breaks: false, continues: false };
-pub const RETURNING: Exits = Exits { falls: false, returns: true, breaks: false, continues: false };
-pub const BREAKING: Exits = Exits { falls: false, returns: false, breaks: true, continues: false };
-pub const CONTINUING: Exits = Exits { falls: false, returns: false, breaks: false, continues: true };
+pub(crate) const FALLING: Exits = Exits {
+    falls: true,
+    returns: false,
+    breaks: false,
+    continues: false,
+};
+
+pub(crate) const RETURNING: Exits = Exits {
+    falls: false,
+    returns: true,
+    breaks: false,
+    continues: false,
+};
+
+pub(crate) const BREAKING: Exits = Exits {
+    falls: false,
+    returns: false,
+    breaks: true,
+    continues: false,
+};
+
+pub(crate) const CONTINUING: Exits = Exits {
+    falls: false,
+    returns: false,
+    breaks: false,
+    continues: true,
+};
 
 // The exits of either of two parts.
-pub fn either(one: Exits, other: Exits) -> Exits
+pub(crate) fn either(one: Exits, other: Exits) -> Exits
     ensures { λ r. ⌜ r ≡ union one other ⌝ }
 {
     Exits {
@@ -30,19 +52,40 @@ pub fn either(one: Exits, other: Exits) -> Exits
     }
 }
 
-pub fn in_sequence(first: Exits, second: Exits) -> Exits
+pub(crate) fn in_sequence(first: Exits, second: Exits) -> Exits
     ensures { λ r. ⌜ r ≡ sequence-exits first second ⌝ }
 {
-    let Exits { returns, breaks, continues, .. } = first;
-    either(Exits { falls: false, returns, breaks, continues }, second)
+    let Exits {
+        returns,
+        breaks,
+        continues,
+        ..
+    } = first;
+    either(
+        Exits {
+            falls: false,
+            returns,
+            breaks,
+            continues,
+        },
+        second,
+    )
 }
 
 // The exits of a loop's statement, from those of its body.
-pub fn around(body: Exits) -> Exits
+pub(crate) fn around(body: Exits) -> Exits
     ensures { λ r. ⌜ r ≡ loop-exits body ⌝ }
 {
     let Exits { falls, returns, .. } = body;
-    either(Exits { falls, returns, breaks: false, continues: false }, FALLING)
+    either(
+        Exits {
+            falls,
+            returns,
+            breaks: false,
+            continues: false,
+        },
+        FALLING,
+    )
 }
 
 fn comes_round(body: Exits) -> bool
@@ -87,8 +130,19 @@ fn body_fits(place: u16, procedure: Option<Procedure>, class: Class) -> bool
     body_exits_fit(procedure.result, exits)
 }
 
-pub fn exits_fit<L: Levels>(levels: &L, tables: &Tables, place: u16, procedure: u16, node: Node) -> bool
-    ensures { λ r. ⌜ r ≡ exits-fit (L·Levels .rules) (view (now (tables .entry))) place procedure node ⌝ }
+pub(crate) fn exits_fit<L: Levels>(
+    levels: &L,
+    tables: &Tables,
+    place: u16,
+    current: u16,
+    node: Node,
+) -> bool
+    ensures { λ r. ⌜ r ≡ exits-fit (L·Levels .rules) (view (now (tables .entry))) place current node ⌝ }
 {
-    parts_fit(tables, node) && body_fits(place, tables.procedure(procedure), class_of(levels, tables, node))
+    parts_fit(tables, node)
+        && body_fits(
+            place,
+            tables.procedure(current),
+            class_of(levels, tables, node),
+        )
 }

@@ -15,7 +15,12 @@ use levels::Levels;
 use program::layout::Layout;
 use program::refusal::Refusal;
 
-fn check_records<L: Levels>(levels: &L, tables: &mut Tables, file: &[u8], layout: Layout) -> Result<(), Refusal>
+fn check_records<L: Levels>(
+    levels: &L,
+    tables: &mut Tables,
+    file: &[u8],
+    layout: Layout,
+) -> Result<(), Refusal>
     requires empty { ⌜ Empty (now tables) ⌝ }
     requires covers { ⌜ Covers (length (now file)) layout ⌝ }
     ensures value { λ r. ⌜ r ≡ checked tt (records-fault (L·Levels .rules) layout (now (file .entry))) ⌝ }
@@ -23,8 +28,21 @@ fn check_records<L: Levels>(levels: &L, tables: &mut Tables, file: &[u8], layout
 {
     let variables = &file[12 * layout.nodes..];
     let procedures = &file[12 * layout.nodes + 8 * layout.variables..];
-    check_variables(levels, &mut tables.variables, variables, layout.variables, layout.procedures)?;
-    check_procedures(levels, &mut tables.procedures, &tables.variables, file, layout, procedures)?;
+    check_variables(
+        levels,
+        &mut tables.variables,
+        variables,
+        layout.variables,
+        layout.procedures,
+    )?;
+    check_procedures(
+        levels,
+        &mut tables.procedures,
+        &tables.variables,
+        file,
+        layout,
+        procedures,
+    )?;
     check_nodes(levels, tables, file, layout.nodes)?;
     check_names(tables)
 }

@@ -14,19 +14,28 @@ fn is_public(tables: &Tables, node: u16) -> bool
     tables.level(node) == 0
 }
 
-pub fn levels_fit<L: Levels>(levels: &L, tables: &Tables, procedure: u16, node: Node) -> bool
-    ensures { λ r. ⌜ r ≡ levels-fit (L·Levels .rules) (view (now (tables .entry))) procedure node ⌝ }
+pub(crate) fn levels_fit<L: Levels>(levels: &L, tables: &Tables, current: u16, node: Node) -> bool
+    ensures { λ r. ⌜ r ≡ levels-fit (L·Levels .rules) (view (now (tables .entry))) current node ⌝ }
 {
     match node {
-        Node::Choice { condition: a, .. }
-        | Node::If { condition: a, .. }
-        | Node::IfElse { condition: a, .. }
-        | Node::While { condition: a, .. }
-        | Node::DoWhile { condition: a, .. }
-        | Node::Output { operand: a } => is_public(tables, a),
-        Node::Assignment { variable, value } => levels.flows(tables.level(value), tables.variable_level(variable as usize)),
-        Node::Call { procedure: called, first } => call_fits(levels, tables, ArgumentTest::Level, called, first),
-        Node::Return { value } => levels.flows(tables.level(value), tables.result_level(procedure)),
+        Node::Choice { condition, .. }
+        | Node::If { condition, .. }
+        | Node::IfElse { condition, .. }
+        | Node::While { condition, .. }
+        | Node::DoWhile { condition, .. } => is_public(tables, condition),
+        Node::Assignment { variable, value } => levels.flows(
+            tables.level(value),
+            tables.variable_level(variable as usize),
+        ),
+        Node::Call { procedure, first } => call_fits(
+            levels,
+            tables,
+            ArgumentTest::Level,
+            procedure,
+            first,
+        ),
+        Node::Return { value } => levels.flows(tables.level(value), tables.result_level(current)),
+        Node::Output { operand } => is_public(tables, operand),
         _ => true,
     }
 }

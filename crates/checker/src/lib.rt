@@ -1,22 +1,22 @@
 // The static check of a program file, into tables whose memory is reserved once.
 // An internal crate: hosts use `script` or the program `pool`.
-pub mod tables;
-mod memory;
-mod lookups;
-mod children;
-mod scope;
 mod arguments;
-mod calls;
-mod operators;
-mod data_types;
-mod flows;
-mod exits;
-mod class;
-mod rows;
-mod variables;
-mod procedures;
 mod bodies;
-mod nodes;
-mod names;
+mod calls;
+mod children;
+mod class;
+mod data_types;
+mod exits;
 pub mod fill;
+mod flows;
+mod lookups;
+mod memory;
+mod names;
+mod nodes;
+mod operators;
+mod procedures;
+mod rows;
+mod scope;
+pub mod tables;
+mod variables;
 pub mod verdict;

@@ -13,28 +13,40 @@ use typing::classes::TypedNode;
 use words::types::DataType;
 
 impl Tables {
-    pub fn variable(&self, number: usize) -> Option<Variable>
+    pub(crate) fn variable(&self, number: usize) -> Option<Variable>
         ensures { λ r. ⌜ r ≡ variable-at (view (now (self .entry))) number ⌝ }
     {
-        if number < self.variables.len() { Some(self.variables[number]) } else { None }
+        if number < self.variables.len() {
+            Some(self.variables[number])
+        } else {
+            None
+        }
     }
 
-    pub fn procedure(&self, number: u16) -> Option<Procedure>
+    pub(crate) fn procedure(&self, number: u16) -> Option<Procedure>
         ensures { λ r. ⌜ r ≡ procedure-at (view (now (self .entry))) number ⌝ }
     {
         let number = number as usize;
-        if number < self.procedures.len() { Some(self.procedures[number]) } else { None }
+        if number < self.procedures.len() {
+            Some(self.procedures[number])
+        } else {
+            None
+        }
     }
 
-    pub fn node(&self, number: u16) -> Option<TypedNode>
+    pub(crate) fn node(&self, number: u16) -> Option<TypedNode>
         ensures { λ r. ⌜ r ≡ node-at (view (now (self .entry))) number ⌝ }
     {
         let number = number as usize;
-        if number < self.nodes.len() { Some(self.nodes[number]) } else { None }
+        if number < self.nodes.len() {
+            Some(self.nodes[number])
+        } else {
+            None
+        }
     }
 
     // The data type of an expression; a void call has none.
-    pub fn data_type(&self, node: u16) -> Option<DataType>
+    pub(crate) fn data_type(&self, node: u16) -> Option<DataType>
         ensures { λ r. ⌜ r ≡ type-of (view (now (self .entry))) node ⌝ }
     {
         match self.node(node)?.class {
@@ -43,31 +55,41 @@ impl Tables {
         }
     }
 
-    pub fn level(&self, node: u16) -> u32
+    pub(crate) fn level(&self, node: u16) -> u32
         ensures { λ r. ⌜ r ≡ level-of (view (now (self .entry))) node ⌝ }
     {
         match self.node(node) {
-            Some(TypedNode { class: Class::Value { level, .. }, .. }) => level,
+            Some(
+                TypedNode {
+                    class: Class::Value { level, .. },
+                    ..
+                },
+            ) => level,
             _ => 0,
         }
     }
 
-    pub fn exits(&self, node: u16) -> Exits
+    pub(crate) fn exits(&self, node: u16) -> Exits
         ensures { λ r. ⌜ r ≡ exits-of (view (now (self .entry))) node ⌝ }
     {
         match self.node(node) {
-            Some(TypedNode { class: Class::Statement { exits }, .. }) => exits,
+            Some(
+                TypedNode {
+                    class: Class::Statement { exits },
+                    ..
+                },
+            ) => exits,
             _ => FALLING,
         }
     }
 
-    pub fn variable_type(&self, number: usize) -> Option<DataType>
+    pub(crate) fn variable_type(&self, number: usize) -> Option<DataType>
         ensures { λ r. ⌜ r ≡ variable-type (variable-at (view (now (self .entry))) number) ⌝ }
     {
         Some(self.variable(number)?.data_type)
     }
 
-    pub fn variable_level(&self, number: usize) -> u32
+    pub(crate) fn variable_level(&self, number: usize) -> u32
         ensures { λ r. ⌜ r ≡ variable-level (variable-at (view (now (self .entry))) number) ⌝ }
     {
         match self.variable(number) {
@@ -77,13 +99,13 @@ impl Tables {
     }
 
     // The data type of a procedure's result; a void procedure has none.
-    pub fn result_type(&self, procedure: u16) -> Option<DataType>
+    pub(crate) fn result_type(&self, procedure: u16) -> Option<DataType>
         ensures { λ r. ⌜ r ≡ result-of (procedure-at (view (now (self .entry))) procedure) ⌝ }
     {
         self.procedure(procedure)?.result
     }
 
-    pub fn result_level(&self, procedure: u16) -> u32
+    pub(crate) fn result_level(&self, procedure: u16) -> u32
         ensures { λ r. ⌜ r ≡ result-level (procedure-at (view (now (self .entry))) procedure) ⌝ }
     {
         match self.procedure(procedure) {

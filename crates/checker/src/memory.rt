@@ -1,7 +1,4 @@
 // The memory of the tables: reserved once, and emptied before a file is checked.
-ghost use mathlib.Core.Path.{_≡_};
-ghost use mathlib.Core.List.{[]};
-ghost use Rattle.std.specs.Of.Vec.{vec-items};
 ghost use Rattle.std.specs.Vec.{made};
 ghost use Rattle.checker.specs.View.{Empty};
 use crate::tables::Tables;
@@ -17,7 +14,12 @@ impl Tables {
         let procedures = Vec::with_capacity(heap, 32)?;
         let nodes = Vec::with_capacity(heap, 1024)?;
         let names = Vec::with_capacity(heap, 1024)?;
-        Ok(Tables { variables, procedures, nodes, names })
+        Ok(Tables {
+            variables,
+            procedures,
+            nodes,
+            names,
+        })
     }
 
     pub(crate) fn clear(&mut self)

@@ -5,10 +5,9 @@ ghost use mathlib.Core.Bool.{_||_};
 ghost use Prim.Native.Nat.{_<_, _≤_};
 ghost use lib.ListN.{length, getD, replicate};
 ghost use Rattle.std.specs.Of.Vec.{vec-items, vec-cap};
-ghost use Rattle.program.specs.Program.{children};
-ghost use Rattle.program.specs.declared.refusal.Refusal.the-variants.{Naming as Bad-naming};
+ghost use Rattle.program.specs.Program.{children, optional};
 ghost use Rattle.typing.specs.Faults.{name-fault};
-ghost use Rattle.typing.specs.First.{unless, first};
+ghost use Rattle.typing.specs.First.{first};
 ghost use Rattle.checker.specs.Names.{more, is-once, marked, marked-all, names-of, count-fault};
 ghost use Rattle.checker.specs.Records.{checked, is-body-of};
 ghost use Rattle.checker.specs.declared.tables.Naming.the-variants.{Never};
@@ -39,44 +38,68 @@ fn mark(names: &mut Vec<Naming>, child: u16)
     }
 }
 
+fn mark_both(names: &mut Vec<Naming>, one: u16, other: u16)
+    ensures items { λ _. ⌜ vec-items (now (names .exit)) ≡ marked (marked (vec-items (now (names .entry))) one) other ⌝ }
+    ensures capacity { λ _. ⌜ vec-cap (now (names .exit)) ≡ vec-cap (now (names .entry)) ⌝ }
+{
+    mark(names, one);
+    mark(names, other);
+}
+
+fn mark_three(names: &mut Vec<Naming>, one: u16, other: u16, last: u16)
+    ensures items { λ _. ⌜ vec-items (now (names .exit)) ≡ marked (marked (marked (vec-items (now (names .entry))) one) other) last ⌝ }
+    ensures capacity { λ _. ⌜ vec-cap (now (names .exit)) ≡ vec-cap (now (names .entry)) ⌝ }
+{
+    mark_both(names, one, other);
+    mark(names, last);
+}
+
+// Marks a child that may be absent.
+fn mark_optional(names: &mut Vec<Naming>, child: Option<u16>)
+    ensures items { λ _. ⌜ vec-items (now (names .exit)) ≡ marked-all (vec-items (now (names .entry))) (optional child) ⌝ }
+    ensures capacity { λ _. ⌜ vec-cap (now (names .exit)) ≡ vec-cap (now (names .entry)) ⌝ }
+{
+    if let Some(child) = child {
+        mark(names, child);
+    }
+}
+
 fn mark_children(names: &mut Vec<Naming>, node: Node)
     ensures items { λ _. ⌜ vec-items (now (names .exit)) ≡ marked-all (vec-items (now (names .entry))) (children node) ⌝ }
     ensures capacity { λ _. ⌜ vec-cap (now (names .exit)) ≡ vec-cap (now (names .entry)) ⌝ }
 {
     match node {
-        Node::Minus { operand: a }
-        | Node::Not { operand: a }
-        | Node::Assignment { value: a, .. }
-        | Node::Release { operand: a }
-        | Node::Expression { value: a }
-        | Node::Return { value: a }
-        | Node::Output { operand: a }
-        | Node::Call { first: Some(a), .. }
-        | Node::Argument { value: a, next: None } => mark(names, a),
-        Node::Arithmetic { left: a, right: b, .. }
-        | Node::Comparison { left: a, right: b, .. }
-        | Node::And { left: a, right: b }
-        | Node::Or { left: a, right: b }
-        | Node::Argument { value: a, next: Some(b) }
-        | Node::Sequence { first: a, second: b }
-        | Node::If { condition: a, branch: b }
-        | Node::While { condition: a, body: b }
-        | Node::DoWhile { condition: a, body: b } => {
-            mark(names, a);
-            mark(names, b);
+        Node::Minus { operand: child }
+        | Node::Not { operand: child }
+        | Node::Assignment { value: child, .. }
+        | Node::Release { operand: child }
+        | Node::Expression { value: child }
+        | Node::Return { value: child }
+        | Node::Output { operand: child } => mark(names, child),
+        Node::Arithmetic { left, right, .. }
+        | Node::Comparison { left, right, .. }
+        | Node::And { left, right }
+        | Node::Or { left, right } => mark_both(names, left, right),
+        Node::Choice {
+            condition,
+            chosen,
+            otherwise,
+        } => mark_three(names, condition, chosen, otherwise),
+        Node::Call { first, .. } => mark_optional(names, first),
+        Node::Argument { value, next } => {
+            mark(names, value);
+            mark_optional(names, next);
         }
-        Node::Choice { condition: a, chosen: b, otherwise: c } | Node::IfElse { condition: a, branch: b, otherwise: c } => {
-            mark(names, a);
-            mark(names, b);
-            mark(names, c);
-        }
-        Node::Constant { .. }
-        | Node::Variable { .. }
-        | Node::Call { first: None, .. }
-        | Node::ReturnVoid
-        | Node::Break
-        | Node::Continue
-        | Node::Definition { .. } => {}
+        Node::Sequence { first, second } => mark_both(names, first, second),
+        Node::If { condition, branch } => mark_both(names, condition, branch),
+        Node::IfElse {
+            condition,
+            branch,
+            otherwise,
+        } => mark_three(names, condition, branch, otherwise),
+        Node::While { condition, body } => mark_both(names, condition, body),
+        Node::DoWhile { condition, body } => mark_both(names, condition, body),
+        _ => {}
     }
 }
 
@@ -125,7 +148,7 @@ fn check_counts(tables: &Tables) -> Result<(), Refusal>
     Ok(())
 }
 
-pub fn check_names(tables: &mut Tables) -> Result<(), Refusal>
+pub(crate) fn check_names(tables: &mut Tables) -> Result<(), Refusal>
     requires room { ⌜ length (vec-items (now tables .nodes)) ≤ 1024 ⌝ }
     requires empty { ⌜ vec-items (now tables .names) ≡ [] ⌝ }
     ensures value { λ r. ⌜ r ≡ checked tt (first (name-fault (vec-items (now (tables .entry) .procedures)) (vec-items (now (tables .entry) .nodes))) (length (vec-items (now (tables .entry) .nodes)))) ⌝ }

@@ -22,20 +22,35 @@ use program::fields::split_node;
 use program::refusal::Refusal;
 use typing::classes::TypedNode;
 
-fn check_node<L: Levels>(levels: &L, tables: &Tables, place: u16, procedure: u16, fields: NodeFields) -> Result<TypedNode, Refusal>
-    ensures { λ r. ⌜ r ≡ checked (typed-node (L·Levels .rules) (view (now (tables .entry))) procedure (known no-node (node-decoded fields))) (record-fault (L·Levels .rules) (view (now (tables .entry))) place procedure (node-decoded fields)) ⌝ }
+fn check_node<L: Levels>(
+    levels: &L,
+    tables: &Tables,
+    place: u16,
+    current: u16,
+    fields: NodeFields,
+) -> Result<TypedNode, Refusal>
+    ensures { λ r. ⌜ r ≡ checked (typed-node (L·Levels .rules) (view (now (tables .entry))) current (known no-node (node-decoded fields))) (record-fault (L·Levels .rules) (view (now (tables .entry))) place current (node-decoded fields)) ⌝ }
 {
     let Some(node) = decode_node(fields) else {
         return Err(Refusal::Record(place));
     };
-    match first_broken(levels, tables, place, procedure, node) {
+    match first_broken(levels, tables, place, current, node) {
         Some(refusal) => Err(refusal),
-        None => Ok(TypedNode { node, procedure, class: class_of(levels, tables, node) }),
+        None => Ok(TypedNode {
+            node,
+            procedure: current,
+            class: class_of(levels, tables, node),
+        }),
     }
 }
 
 // Checks the file's first `count` records.
-pub fn check_nodes<L: Levels>(levels: &L, tables: &mut Tables, file: &[u8], count: usize) -> Result<(), Refusal>
+pub(crate) fn check_nodes<L: Levels>(
+    levels: &L,
+    tables: &mut Tables,
+    file: &[u8],
+    count: usize,
+) -> Result<(), Refusal>
     requires room { ⌜ count ≤ 1024 ⌝ }
     requires empty { ⌜ vec-items (now tables .nodes) ≡ [] ⌝ }
     requires long { ⌜ 12 * count ≤ length (now file) ⌝ }

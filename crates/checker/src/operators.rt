@@ -10,17 +10,17 @@ use words::types::DataType;
 
 // A row for each of + - * / % == != < <= > >=, and a column for bool, int and unsigned.
 const ALLOWED: [[bool; 3]; 11] = [
-    [false, true, true],
-    [false, true, true],
-    [false, true, true],
-    [false, true, true],
-    [false, true, true],
-    [true, true, true],
-    [true, true, true],
-    [false, true, true],
-    [false, true, true],
-    [false, true, true],
-    [false, true, true],
+    [false, true, true], // +
+    [false, true, true], // -
+    [false, true, true], // *
+    [false, true, true], // /
+    [false, true, true], // %
+    [true, true, true], // ==
+    [true, true, true], // !=
+    [false, true, true], // <
+    [false, true, true], // <=
+    [false, true, true], // >
+    [false, true, true], // >=
 ];
 
 fn column(data_type: DataType) -> usize
@@ -66,7 +66,7 @@ fn comparison_row(operator: Comparison) -> usize
     }
 }
 
-pub fn arithmetic_takes(operator: Arithmetic, data_type: Option<DataType>) -> bool
+pub(crate) fn arithmetic_takes(operator: Arithmetic, data_type: Option<DataType>) -> bool
     ensures { λ r. ⌜ r ≡ arithmetic-takes «data_type» ⌝ }
 {
     match data_type {
@@ -75,7 +75,7 @@ pub fn arithmetic_takes(operator: Arithmetic, data_type: Option<DataType>) -> bo
     }
 }
 
-pub fn comparison_takes(operator: Comparison, data_type: Option<DataType>) -> bool
+pub(crate) fn comparison_takes(operator: Comparison, data_type: Option<DataType>) -> bool
     ensures { λ r. ⌜ r ≡ comparison-takes operator «data_type» ⌝ }
 {
     match data_type {

@@ -62,7 +62,11 @@ fn all_owned(variables: &[Variable], procedure: usize, first: u16, count: u8) ->
 fn parameters_fit(variables: &[Variable], place: usize, procedure: Procedure) -> bool
     ensures { λ r. ⌜ r ≡ parameters-fit (now (variables .entry)) place procedure ⌝ }
 {
-    let Procedure { parameters, first_parameter, .. } = procedure;
+    let Procedure {
+        parameters,
+        first_parameter,
+        ..
+    } = procedure;
     parameters <= 8
         && first_parameter as usize + parameters as usize <= variables.len()
         && (parameters != 0 || first_parameter == 0)
@@ -77,7 +81,13 @@ fn is_above(procedures: &[Procedure], body: u16) -> bool
     count == 0 || procedures[count - 1].body < body
 }
 
-fn body_stands(file: &[u8], layout: Layout, procedures: &[Procedure], place: usize, body: u16) -> bool
+fn body_stands(
+    file: &[u8],
+    layout: Layout,
+    procedures: &[Procedure],
+    place: usize,
+    body: u16,
+) -> bool
     requires { ⌜ 12 * layout .nodes ≤ length (now file) ⌝ }
     requires { ⌜ place < layout .procedures ⌝ }
     ensures { λ r. ⌜ r ≡ body-stands (now (file .entry)) (layout .nodes) (layout .procedures) (now (procedures .entry)) place body ⌝ }
@@ -148,7 +158,7 @@ fn check_procedure<L: Levels>(
 }
 
 // Checks the records at the front of `part`, the file's procedures.
-pub fn check_procedures<L: Levels>(
+pub(crate) fn check_procedures<L: Levels>(
     levels: &L,
     procedures: &mut Vec<Procedure>,
     variables: &[Variable],
@@ -169,7 +179,15 @@ pub fn check_procedures<L: Levels>(
             unreachable()
         };
         left = rest;
-        let procedure = check_procedure(levels, file, layout, variables, procedures, place, fields)?;
+        let procedure = check_procedure(
+            levels,
+            file,
+            layout,
+            variables,
+            procedures,
+            place,
+            fields,
+        )?;
         procedures.push_reserved(procedure);
     }
     Ok(())

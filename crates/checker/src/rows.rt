@@ -14,19 +14,32 @@ use program::records::Node;
 use program::refusal::Refusal;
 use typing::rows::NodeRow;
 
-const NODE_ROWS: [NodeRow; 6] =
-    [NodeRow::Child, NodeRow::Scope, NodeRow::Call, NodeRow::DataType, NodeRow::Level, NodeRow::Exits];
+const NODE_ROWS: [NodeRow; 6] = [
+    NodeRow::Child,
+    NodeRow::Scope,
+    NodeRow::Call,
+    NodeRow::DataType,
+    NodeRow::Level,
+    NodeRow::Exits,
+];
 
-fn row_passes<L: Levels>(levels: &L, tables: &Tables, place: u16, procedure: u16, node: Node, row: NodeRow) -> bool
-    ensures { λ r. ⌜ r ≡ passes (L·Levels .rules) (view (now (tables .entry))) place procedure node row ⌝ }
+fn row_passes<L: Levels>(
+    levels: &L,
+    tables: &Tables,
+    place: u16,
+    current: u16,
+    node: Node,
+    row: NodeRow,
+) -> bool
+    ensures { λ r. ⌜ r ≡ passes (L·Levels .rules) (view (now (tables .entry))) place current node row ⌝ }
 {
     match row {
-        NodeRow::Child => children_fit(tables, place, procedure, node),
-        NodeRow::Scope => scope_fits(tables, procedure, node),
-        NodeRow::Call => calls_fit(levels, tables, procedure, node),
-        NodeRow::DataType => types_fit(levels, tables, procedure, node),
-        NodeRow::Level => levels_fit(levels, tables, procedure, node),
-        NodeRow::Exits => exits_fit(levels, tables, place, procedure, node),
+        NodeRow::Child => children_fit(tables, place, current, node),
+        NodeRow::Scope => scope_fits(tables, current, node),
+        NodeRow::Call => calls_fit(levels, tables, current, node),
+        NodeRow::DataType => types_fit(levels, tables, current, node),
+        NodeRow::Level => levels_fit(levels, tables, current, node),
+        NodeRow::Exits => exits_fit(levels, tables, place, current, node),
     }
 }
 
@@ -44,11 +57,17 @@ fn refusal_of(row: NodeRow, place: u16) -> Refusal
 }
 
 // The refusal of the first row that a node does not pass.
-pub fn first_broken<L: Levels>(levels: &L, tables: &Tables, place: u16, procedure: u16, node: Node) -> Option<Refusal>
-    ensures { λ r. ⌜ r ≡ first-broken (L·Levels .rules) (view (now (tables .entry))) place procedure node node-rows ⌝ }
+pub(crate) fn first_broken<L: Levels>(
+    levels: &L,
+    tables: &Tables,
+    place: u16,
+    current: u16,
+    node: Node,
+) -> Option<Refusal>
+    ensures { λ r. ⌜ r ≡ first-broken (L·Levels .rules) (view (now (tables .entry))) place current node node-rows ⌝ }
 {
     for row in NODE_ROWS {
-        if !row_passes(levels, tables, place, procedure, node, row) {
+        if !row_passes(levels, tables, place, current, node, row) {
             return Some(refusal_of(row, place));
         }
     }

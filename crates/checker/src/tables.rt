@@ -13,6 +13,7 @@ pub enum Naming {
     Often,
 }
 
+// What a file holds, and how often each of its nodes is named.
 #[derive(Drop)]
 pub struct Tables {
     pub variables: Vec<Variable>,

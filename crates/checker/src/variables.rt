@@ -25,12 +25,18 @@ fn variable_fits<L: Levels>(levels: &L, procedures: usize, variable: Variable) -
 {
     let owned = match variable.role {
         Role::Global | Role::Input => true,
-        Role::Local { procedure } | Role::Parameter { procedure } => (procedure as usize) < procedures,
+        Role::Local { procedure } | Role::Parameter { procedure } => (procedure as usize)
+            < procedures,
     };
     owned && levels.is_level(variable.level)
 }
 
-fn check_variable<L: Levels>(levels: &L, procedures: usize, place: u16, fields: VariableFields) -> Result<Variable, Refusal>
+fn check_variable<L: Levels>(
+    levels: &L,
+    procedures: usize,
+    place: u16,
+    fields: VariableFields,
+) -> Result<Variable, Refusal>
     ensures { λ r. ⌜ r ≡ checked (known no-variable (variable-decoded fields)) (unless (variable-fits (L·Levels .rules) procedures (variable-decoded fields)) (Bad-variable place)) ⌝ }
 {
     match decode_variable(fields) {
@@ -40,7 +46,13 @@ fn check_variable<L: Levels>(levels: &L, procedures: usize, place: u16, fields: 
 }
 
 // Checks `count` records at the front of `part`, in a file of so many procedures.
-pub fn check_variables<L: Levels>(levels: &L, variables: &mut Vec<Variable>, part: &[u8], count: usize, procedures: usize) -> Result<(), Refusal>
+pub(crate) fn check_variables<L: Levels>(
+    levels: &L,
+    variables: &mut Vec<Variable>,
+    part: &[u8],
+    count: usize,
+    procedures: usize,
+) -> Result<(), Refusal>
     requires room { ⌜ count ≤ 128 ⌝ ∗ ⌜ 128 ≤ vec-cap (now variables) ⌝ }
     requires empty { ⌜ vec-items (now variables) ≡ [] ⌝ }
     requires long { ⌜ 8 * count ≤ length (now part) ⌝ }

@@ -1,3 +1,4 @@
+-- One argument further, by what was found of it.
 use borrow.Author.Needs.{needs}
 use mathlib.Core.Path.{sym, _∙_}
 use Rattle.checker.proofs.Further.{arguments-end, argument-missing, argument-broken, argument-fitting}

@@ -1,3 +1,4 @@
+-- The answers of the parts, in order, make that of the records.
 use native.Mathlib.Omega.{arith}
 use mathlib.Core.Path.{_∙_, ap}
 use lib.ListN.{length}
@@ -22,9 +23,9 @@ returns-in-Break-check-procedures g c =
     rw (p .1, p .2)
     record {
       value =
-        stops-at-procedures r l bs tt (c .in-Continue-check-variables .ensures tt .value) _
-        (c .deref .ensures .value ∙ variables-are r l bs _ (c .in-Continue-check-variables .ensures tt .items)) _ (c .in-Break-check-procedures .ensures tt .value);
-      filled = tt
+          stops-at-procedures r l bs tt (c .in-Continue-check-variables .ensures tt .value) _
+          (c .deref .ensures .value ∙ variables-are r l bs _ (c .in-Continue-check-variables .ensures tt .items)) _ (c .in-Break-check-procedures .ensures tt .value);
+      filled = tt;
     }
 
 pub returns-in-Break-check-nodes : need.returns-in-Break-check-nodes
@@ -38,9 +39,9 @@ returns-in-Break-check-nodes g c =
     rw (p .1, p .2)
     record {
       value =
-        stops-at-nodes r l bs tt (c .in-Continue-check-variables .ensures tt .value) _ (c .deref .ensures .value ∙ v) (c .in-Continue-check-procedures .ensures tt .value) _ v _ d _
-        (c .in-Break-check-nodes .ensures tt .value);
-      filled = tt
+          stops-at-nodes r l bs tt (c .in-Continue-check-variables .ensures tt .value) _ (c .deref .ensures .value ∙ v) (c .in-Continue-check-procedures .ensures tt .value) _ v _ d _
+          (c .in-Break-check-nodes .ensures tt .value);
+      filled = tt;
     }
 
 pub check-names-requires : need.check-names-requires
@@ -53,7 +54,7 @@ check-names-requires g c κs =
     let n = nodes-are r l bs _ _ v d _ (c .in-Continue-check-nodes .ensures tt .items) in
     record {
       room = omega (arith, ap length n, length-nodes r l bs, c .pre .covers .few-nodes);
-      empty = ap vec-items (c .in-Continue-check-nodes .ensures tt .names) ∙ c .pre .empty .names
+      empty = ap vec-items (c .in-Continue-check-nodes .ensures tt .names) ∙ c .pre .empty .names;
     }
 
 pub returns : need.returns
@@ -67,10 +68,10 @@ returns g c =
     let ds = ap vec-items (c .in-Continue-check-nodes .ensures tt .procedures) ∙ d in
     record {
       value =
-        ends-at-names r l bs tt (c .in-Continue-check-variables .ensures tt .value) _ (c .deref .ensures .value ∙ v) (c .in-Continue-check-procedures .ensures tt .value) _ v _ d
-        (c .in-Continue-check-nodes .ensures tt .value) _ ds _ n _ (c .check-names .ensures .value);
+          ends-at-names r l bs tt (c .in-Continue-check-variables .ensures tt .value) _ (c .deref .ensures .value ∙ v) (c .in-Continue-check-procedures .ensures tt .value) _ v _ d
+          (c .in-Continue-check-nodes .ensures tt .value) _ ds _ n _ (c .check-names .ensures .value);
       filled =
-        made-always (c .check-names .result)
-        (viewed (c .check-names .last .tables) _ _ _ (ap vec-items (c .check-names .ensures .variables ∙ c .in-Continue-check-nodes .ensures tt .variables) ∙ v)
-          (ap vec-items (c .check-names .ensures .procedures) ∙ ds) (ap vec-items (c .check-names .ensures .nodes) ∙ n))
+          made-always (c .check-names .result)
+          (viewed (c .check-names .last .tables) _ _ _ (ap vec-items (c .check-names .ensures .variables ∙ c .in-Continue-check-nodes .ensures tt .variables) ∙ v)
+          (ap vec-items (c .check-names .ensures .procedures) ∙ ds) (ap vec-items (c .check-names .ensures .nodes) ∙ n));
     }

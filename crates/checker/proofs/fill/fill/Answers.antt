@@ -1,3 +1,4 @@
+-- The layout and the answer of the records make the verdict.
 use Rattle.std.proofs.shelf.Results.{err-from-errBy}
 use Rattle.checker.proofs.Parts.{unread, refused, accepted}
 use Rattle.checker.proofs.fill.fill.Needs as need
@@ -13,14 +14,14 @@ returns-in-Break-check-records g c =
     rw (p .1, p .2)
     record {
       value =
-        refused (g .L·Levels .rules) (c .args .file .now) (c .in-Continue-layout .layout) tt _ (c .in-Continue-layout .ensures tt .value) (c .in-Break-check-records .ensures tt .value);
-      filled = tt
+          refused (g .L·Levels .rules) (c .args .file .now) (c .in-Continue-layout .layout) tt _ (c .in-Continue-layout .ensures tt .value) (c .in-Break-check-records .ensures tt .value);
+      filled = tt;
     }
 
 pub returns : need.returns
 returns g c =
     record {
       value =
-        accepted (g .L·Levels .rules) (c .args .file .now) (c .in-Continue-layout .layout) tt (c .in-Continue-layout .ensures tt .value) (c .in-Continue-check-records .ensures tt .value);
-      filled = c .in-Continue-check-records .ensures tt .filled
+          accepted (g .L·Levels .rules) (c .args .file .now) (c .in-Continue-layout .layout) tt (c .in-Continue-layout .ensures tt .value) (c .in-Continue-check-records .ensures tt .value);
+      filled = c .in-Continue-check-records .ensures tt .filled;
     }

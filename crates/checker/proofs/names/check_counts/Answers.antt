@@ -1,7 +1,8 @@
+-- One node further, by whether it is well named.
 use Prim.Native.Nat.{ℕ, _<_}
 use native.Mathlib.Omega.{arith}
 use mathlib.Core.Bool.{Bool, _||_}
-use mathlib.Core.Path.{_≡_, sym, _∙_, ap}
+use mathlib.Core.Path.{sym, _∙_, ap}
 use lib.ListN.{getD, length}
 use Rattle.std.specs.Of.Vec.{vec-items}
 use Rattle.program.specs.declared.refusal.Refusal.the-variants.{Naming as Bad-naming}
@@ -27,8 +28,8 @@ returns-then-not-is-well-named c =
     let k = c .loop-place .place in
     let within : k < length ms = omega (arith, c .args .tables .now .names .ok .0) in
     let here =
-        ap (λ (q : ℕ). unless (is-body-of ds q k || is-once (getD ms k Never)) (Bad-naming k)) (sym (c .loop-place .inv .1))
-        ∙ ap (λ (b : Bool). unless b (Bad-naming k)) (sym (c .is-well-named .ensures) ∙ c .if-not-is-well-named .taken) in
+    ap (λ (q : ℕ). unless (is-body-of ds q k || is-once (getD ms k Never)) (Bad-naming k)) (sym (c .loop-place .inv .1))
+    ∙ ap (λ (b : Bool). unless b (Bad-naming k)) (sym (c .is-well-named .ensures) ∙ c .if-not-is-well-named .taken) in
     sym (ap (checked tt) (first-found (count-fault ds ms) (Bad-naming k) k (length ms) (c .loop-place .inv .0) here within))
 
 pub loop-place-again : need.loop-place-again
@@ -37,7 +38,8 @@ loop-place-again c =
     let ms = vec-items (c .args .tables .now .names) in
     let k = c .loop-place .place in
     let here =
-        ap (λ (q : ℕ). unless (is-body-of ds q k || is-once (getD ms k Never)) (Bad-naming k)) (sym (c .loop-place .inv .1))
-        ∙ ap (λ (b : Bool). unless b (Bad-naming k)) (sym (c .is-well-named .ensures) ∙ c .if-not-is-well-named .left) in
-    ( first-more (count-fault ds ms) k (c .loop-place .inv .0) here
-    , c .next-procedure-procedure .ensures ∙ procedure-more ds k _ (c .loop-place .inv .1) )
+    ap (λ (q : ℕ). unless (is-body-of ds q k || is-once (getD ms k Never)) (Bad-naming k)) (sym (c .loop-place .inv .1))
+    ∙ ap (λ (b : Bool). unless b (Bad-naming k)) (sym (c .is-well-named .ensures) ∙ c .if-not-is-well-named .left) in (
+      first-more (count-fault ds ms) k (c .loop-place .inv .0) here,
+      c .next-procedure-procedure .ensures ∙ procedure-more ds k _ (c .loop-place .inv .1),
+    )

@@ -1,3 +1,4 @@
+-- The nodes before are well named, and the running number is that of the procedure here.
 use mathlib.Core.Path.{_≡_}
 use Rattle.std.specs.Of.Vec.{vec-items}
 use Rattle.std.specs.declared.option.Option.the-variants.{None}

@@ -1,6 +1,7 @@
+-- What the counts say is what row 17 asks.
 use native.Mathlib.Omega.{arith}
 use mathlib.Core.List.{List}
-use mathlib.Core.Path.{_≡_, refl, _∙_, ap}
+use mathlib.Core.Path.{refl, _∙_, ap}
 use lib.ListN.{length}
 use Rattle.std.specs.Of.Vec.{vec-items}
 use Rattle.typing.specs.First.{first}
@@ -20,10 +21,10 @@ returns c =
     let ns = vec-items (c .args .tables .now .nodes) in
     record {
       value =
-        c .check-counts .ensures
-        ∙ ap (λ (ms : List Naming). checked tt (first (count-fault ds ms) (length ms))) (c .mark-names .ensures .items ∙ ap names-of (c .deref .ensures .value))
-        ∙ ap (checked tt) (counts-say ds ns);
+          c .check-counts .ensures
+          ∙ ap (λ (ms : List Naming). checked tt (first (count-fault ds ms) (length ms))) (c .mark-names .ensures .items ∙ ap names-of (c .deref .ensures .value))
+          ∙ ap (checked tt) (counts-say ds ns);
       variables = refl;
       procedures = refl;
-      nodes = refl
+      nodes = refl;
     }

@@ -1,3 +1,4 @@
+-- A child within the table is counted, and any other passed over.
 use borrow.Author.Needs.{needs, getD-read}
 use Rattle.checker.specs.Names.{marked}
 use Rattle.checker.proofs.names.mark.Needs as need

@@ -1,3 +1,4 @@
+-- The table has counted what the nodes before name.
 use mathlib.Core.Path.{_≡_}
 use lib.ListN.{length, replicate, take}
 use Rattle.std.specs.Iters.{folded}

@@ -1,3 +1,4 @@
+-- One entry further.
 use Prim.Native.Nat.{ℕ}
 use native.Mathlib.Omega.{arith}
 use mathlib.Core.List.{List, [], _∷_, _++_}
@@ -16,9 +17,10 @@ push-reserved-requires c κs =
     omega (arith, c .loop .names .ok .0, ap length (c .loop .inv .0), length-replicate (c .loop .counter) Never)
 
 pub loop-again : need.loop-again
-loop-again c =
-    ( c .push-reserved .ensures .items ∙ ap (λ (ms : List Naming). ms ++ Never ∷ []) (c .loop .inv .0) ∙ never-more (c .loop .counter)
-    , c .push-reserved .ensures .capacity ∙ c .loop .inv .1 )
+loop-again c = (
+  c .push-reserved .ensures .items ∙ ap (λ (ms : List Naming). ms ++ Never ∷ []) (c .loop .inv .0) ∙ never-more (c .loop .counter),
+  c .push-reserved .ensures .capacity ∙ c .loop .inv .1,
+)
 
 pub returns : need.returns
 returns c =

@@ -1,3 +1,4 @@
+-- The entries so far say never.
 use mathlib.Core.Path.{_≡_}
 use lib.ListN.{replicate}
 use Rattle.std.specs.Of.Vec.{vec-items, vec-cap}

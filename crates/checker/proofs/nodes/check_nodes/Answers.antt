@@ -1,3 +1,4 @@
+-- One node record further, by its fault.
 use native.Mathlib.Omega.{arith}
 use Prim.Native.Nat.{suc}
 use mathlib.Core.Bool.{cond}
@@ -12,7 +13,6 @@ use Rattle.typing.specs.Environment.{procedure-of}
 use Rattle.typing.specs.Faults.{known, environment, node-record, typed-node, typed-nodes, node-fault}
 use Rattle.typing.proofs.Rising.{first-none, table-none, length-table, drop-record}
 use Rattle.checker.specs.Records.{is-body-of}
-use Rattle.checker.specs.View.{view}
 use Rattle.checker.proofs.Answered.{stops, goes-on, grows}
 use Rattle.checker.proofs.Running.{procedure-none, procedure-more, procedure-below}
 use Rattle.checker.proofs.Taken.{node-fault-taken, typed-node-taken}
@@ -54,7 +54,7 @@ returns-in-Break-node g c =
       items = tt;
       variables = c .loop-place .inv .4;
       procedures = c .loop-place .inv .5;
-      names = c .loop-place .inv .6
+      names = c .loop-place .inv .6;
     }
 
 pub loop-place-again : need.loop-place-again
@@ -66,14 +66,15 @@ loop-place-again g c =
     let k = c .loop-place .place in
     let below = viewed (c .loop-place .tables) vs ds (typed-nodes r vs ds bs k) (ap vec-items (c .loop-place .inv .4)) (ap vec-items (c .loop-place .inv .5)) (c .loop-place .inv .2) in
     let here = node-fault-taken bs _ k _ (c .in-Some .ensures tt .1) (c .loop-place .inv .0) r vs ds _ _ below (c .loop-place .inv .3) in
-    let it = typed-node-taken bs _ k _ (c .in-Some .ensures tt .1) (c .loop-place .inv .0) r vs ds _ _ below (c .loop-place .inv .3) in
-    ( c .in-Some .ensures tt .2 ∙ ap (drop 12) (c .loop-place .inv .0) ∙ drop-record 12 k bs
-    , goes-on (node-fault r vs ds bs) k _ _ _ (c .loop-place .inv .1) here (c .in-Continue-node .ensures tt)
-    , c .push-reserved .ensures .items
-      ∙ grows (λ ns j. typed-node r (environment vs ds ns) (procedure-of ds j) (known no-node (node-record bs j))) k _ _ _ _ (c .loop-place .inv .2) it (c .in-Continue-node .ensures tt)
-    , c .next-procedure-procedure .ensures
-      ∙ ap (λ (xs : List Procedure). cond (is-body-of xs (c .loop-place .procedure) k) (suc (c .loop-place .procedure)) (c .loop-place .procedure)) (ap vec-items (c .loop-place .inv .5))
-      ∙ procedure-more ds k _ (c .loop-place .inv .3)
-    , c .loop-place .inv .4
-    , c .loop-place .inv .5
-    , c .loop-place .inv .6 )
+    let it = typed-node-taken bs _ k _ (c .in-Some .ensures tt .1) (c .loop-place .inv .0) r vs ds _ _ below (c .loop-place .inv .3) in (
+      c .in-Some .ensures tt .2 ∙ ap (drop 12) (c .loop-place .inv .0) ∙ drop-record 12 k bs,
+      goes-on (node-fault r vs ds bs) k _ _ _ (c .loop-place .inv .1) here (c .in-Continue-node .ensures tt),
+      c .push-reserved .ensures .items
+          ∙ grows (λ ns j. typed-node r (environment vs ds ns) (procedure-of ds j) (known no-node (node-record bs j))) k _ _ _ _ (c .loop-place .inv .2) it (c .in-Continue-node .ensures tt),
+      c .next-procedure-procedure .ensures
+          ∙ ap (λ (xs : List Procedure). cond (is-body-of xs (c .loop-place .procedure) k) (suc (c .loop-place .procedure)) (c .loop-place .procedure)) (ap vec-items (c .loop-place .inv .5))
+          ∙ procedure-more ds k _ (c .loop-place .inv .3),
+      c .loop-place .inv .4,
+      c .loop-place .inv .5,
+      c .loop-place .inv .6,
+    )

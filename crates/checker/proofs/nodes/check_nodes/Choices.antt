@@ -1,3 +1,4 @@
+-- The records before have no fault, the table holds them, and the running number is that of the procedure here.
 use Prim.Native.Nat.{_*_}
 use mathlib.Core.Path.{_≡_}
 use lib.ListN.{drop}

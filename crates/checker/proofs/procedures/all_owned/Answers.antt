@@ -1,3 +1,4 @@
+-- One variable further, by whether it is owned as it should be.
 use mathlib.Core.Path.{sym, _∙_}
 use Rattle.typing.specs.Faults.{owned-at}
 use Rattle.typing.proofs.Rising.{all-below-none, all-below-more, all-below-broken}

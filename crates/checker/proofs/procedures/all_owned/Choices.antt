@@ -1,3 +1,4 @@
+-- The variables before are owned as they should be.
 use mathlib.Core.Bool.{true}
 use mathlib.Core.Path.{_≡_}
 use Rattle.typing.specs.Faults.{owned-at, all-below}

@@ -1,3 +1,4 @@
+-- One variable record further, by its fault.
 use native.Mathlib.Omega.{arith}
 use mathlib.Core.Path.{refl, sym, _∙_, ap}
 use lib.ListN.{length, length-drop, drop}
@@ -28,19 +29,20 @@ returns-in-Break-check-variable g c =
     rw (p .1, p .2)
     record {
       value =
-        stops tt (variable-fault (g .L·Levels .rules) (c .args .procedures) (c .args .part .now)) (c .loop-place .place) (c .args .count) _ _ _
-        (c .loop-place .inv .1) (c .loop-place-test .taken) here (c .in-Break-check-variable .ensures tt);
+          stops tt (variable-fault (g .L·Levels .rules) (c .args .procedures) (c .args .part .now)) (c .loop-place .place) (c .args .count) _ _ _
+          (c .loop-place .inv .1) (c .loop-place-test .taken) here (c .in-Break-check-variable .ensures tt);
       items = tt;
-      capacity = c .loop-place .inv .3
+      capacity = c .loop-place .inv .3;
     }
 
 pub loop-place-again : need.loop-place-again
 loop-place-again g c =
     let here = variable-fault-taken (c .args .part .now) _ (c .loop-place .place) _ (c .in-Some .ensures tt .1) (c .loop-place .inv .0) (g .L·Levels .rules) (c .args .procedures) in
-    let it = variable-taken (c .args .part .now) _ (c .loop-place .place) _ (c .in-Some .ensures tt .1) (c .loop-place .inv .0) in
-    ( c .in-Some .ensures tt .2 ∙ ap (drop 8) (c .loop-place .inv .0) ∙ drop-record 8 (c .loop-place .place) (c .args .part .now)
-    , goes-on (variable-fault (g .L·Levels .rules) (c .args .procedures) (c .args .part .now)) (c .loop-place .place) _ _ _ (c .loop-place .inv .1) here
-      (c .in-Continue-check-variable .ensures tt)
-    , c .push-reserved .ensures .items
-      ∙ grows (λ _ i. known no-variable (variable-record (c .args .part .now) i)) (c .loop-place .place) _ _ _ _ (c .loop-place .inv .2) (ap (known no-variable) it) (c .in-Continue-check-variable .ensures tt)
-    , c .push-reserved .ensures .capacity ∙ c .loop-place .inv .3 )
+    let it = variable-taken (c .args .part .now) _ (c .loop-place .place) _ (c .in-Some .ensures tt .1) (c .loop-place .inv .0) in (
+      c .in-Some .ensures tt .2 ∙ ap (drop 8) (c .loop-place .inv .0) ∙ drop-record 8 (c .loop-place .place) (c .args .part .now),
+      goes-on (variable-fault (g .L·Levels .rules) (c .args .procedures) (c .args .part .now)) (c .loop-place .place) _ _ _ (c .loop-place .inv .1) here
+          (c .in-Continue-check-variable .ensures tt),
+      c .push-reserved .ensures .items
+          ∙ grows (λ _ i. known no-variable (variable-record (c .args .part .now) i)) (c .loop-place .place) _ _ _ _ (c .loop-place .inv .2) (ap (known no-variable) it) (c .in-Continue-check-variable .ensures tt),
+      c .push-reserved .ensures .capacity ∙ c .loop-place .inv .3,
+    )

@@ -1,3 +1,4 @@
+-- The records before have no fault, and the table holds them.
 use Prim.Native.Nat.{_*_}
 use mathlib.Core.Path.{_≡_}
 use lib.ListN.{drop}
