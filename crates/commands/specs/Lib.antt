@@ -3,4 +3,5 @@ pub mod Pieces
 pub mod Numbers
 pub mod Arguments
 pub mod Commands
+pub mod Files
 pub mod Texts

@@ -8,7 +8,7 @@ use Rattle.commands.specs.declared.types.HoldingKind.the-variants.{Open, Split
 use Rattle.commands.specs.declared.types.LevelKind.{LevelKind}
 use Rattle.commands.specs.declared.types.LevelKind.the-variants.{Two, Members}
 use Rattle.commands.specs.declared.types.Problem.{Problem}
-use Rattle.commands.specs.declared.types.Problem.the-variants.{UnknownCommand, ArgumentCount, NoWord, NoInt, UnknownLevels, UnknownHolding}
+use Rattle.commands.specs.declared.types.Problem.the-variants.{UnknownCommand, ArgumentCount, NoWord, NoInt, UnknownLevels, UnknownHolding, NoDigits, Unreadable}
 
 abbrev pub level-kind-text : LevelKind → List ℕ
 level-kind-text Two = codes "two"
@@ -25,3 +25,5 @@ problem-text (NoWord number) = codes "argument " ++ (decimal number ++ codes " i
 problem-text (NoInt number) = codes "argument " ++ (decimal number ++ codes " is no int: 0 to 4294967295 or -1 to -2147483648 wanted")
 problem-text UnknownLevels = codes "unknown kind of levels: two or members wanted"
 problem-text UnknownHolding = codes "unknown kind of holding: open or split wanted"
+problem-text NoDigits = codes "argument 1 is no file: an even number of hexadecimal digits wanted"
+problem-text Unreadable = codes "the file cannot be read"

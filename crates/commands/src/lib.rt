@@ -2,6 +2,7 @@
 mod arguments;
 mod cutting;
 mod fields;
+pub mod files;
 pub mod lines;
 mod numbers;
 pub mod reading;

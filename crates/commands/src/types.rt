@@ -24,6 +24,20 @@ pub enum Command {
     Amend { weight: u32, correction: u32 },
 }
 
+// Where the bytes of a program file stand: as hexadecimal digits in the script, or in a file.
+#[derive(Clone, Copy)]
+pub enum Source {
+    Digits,
+    Path,
+}
+
+// A command that checks a program file, with the digits or the path.
+#[derive(Clone, Copy)]
+pub struct FileCommand<'a> {
+    pub source: Source,
+    pub text: &'a [u8],
+}
+
 // An argument is numbered from 1: the field after the command's name.
 #[derive(Clone, Copy)]
 pub enum Problem {
@@ -35,4 +49,6 @@ pub enum Problem {
     NoInt(u8),
     UnknownLevels,
     UnknownHolding,
+    NoDigits,
+    Unreadable,
 }

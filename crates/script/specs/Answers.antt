@@ -1,13 +1,20 @@
 -- What a command is answered, and what it leaves chosen. Assumes nothing.
+use mathlib.Core.List.{List}
 use Prim.Native.Nat.{ℕ}
 use lib.IntN.{_+ℤ_}
+use Rattle.std.specs.declared.result.Result.{Result}
+use Rattle.std.specs.declared.result.Result.the-variants.{Ok, Err}
 use Rattle.holding.specs.Counts.{none-yet, one-put, one-op}
 use Rattle.holding.specs.declared.shares.Counts.{Counts}
 use Rattle.levels.specs.Kinds.{two-level-rules, member-set-rules}
 use Rattle.levels.specs.Rules.{Rules}
+use Rattle.program.specs.Refusals.{row-number, place-number}
+use Rattle.program.specs.declared.layout.Layout.{Layout}
+use Rattle.program.specs.declared.refusal.Refusal.{Refusal}
+use Rattle.typing.specs.Faults.{verdict-of}
 use Rattle.words.specs.Ints.{int-of, word-of}
 use Rattle.script.specs.declared.answers.Answer.{Answer}
-use Rattle.script.specs.declared.answers.Answer.the-variants.{Levels as Chosen-levels, Holding as Chosen-holding, Flows as Flow, Joint as Joint-level, Amend as Amended}
+use Rattle.script.specs.declared.answers.Answer.the-variants.{Levels as Chosen-levels, Holding as Chosen-holding, Flows as Flow, Joint as Joint-level, Amend as Amended, Accepted, Refused}
 use Rattle.commands.specs.declared.types.Command.{Command}
 use Rattle.commands.specs.declared.types.Command.the-variants.{Levels, Holding, Flows, Joint, Amend}
 use Rattle.commands.specs.declared.types.HoldingKind.the-variants.{Open}
@@ -49,3 +56,11 @@ answer-to desk (Holding kind) = Chosen-holding kind
 answer-to desk (Flows from into) = Flow (level-rules (desk .levels) .flows from into)
 answer-to desk (Joint one other) = Joint-level (level-rules (desk .levels) .joint one other)
 answer-to desk (Amend weight correction) = amend-answer weight correction none-yet
+
+-- a verdict on a program file: the counts of its records, or the row and the place of its first fault
+abbrev pub verdict-answer : Result Layout Refusal → Answer
+verdict-answer (Ok l) = Accepted (l .nodes) (l .variables) (l .procedures)
+verdict-answer (Err e) = Refused (row-number e) (place-number e)
+
+abbrev pub check-answer : Desk → List ℕ → Answer
+check-answer desk file = verdict-answer (verdict-of (level-rules (desk .levels)) file)

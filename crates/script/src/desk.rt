@@ -1,12 +1,14 @@
 // The desk: what a script has chosen so far, and what its commands are answered by that.
 ghost use mathlib.Core.Path.{_≡_};
-ghost use Rattle.script.specs.Answers.{new-desk, desk-after, amend-answer, answer-to};
+ghost use Rattle.script.specs.Answers.{new-desk, desk-after, amend-answer, answer-to, check-answer};
 ghost use Rattle.script.specs.Replies.{reply-to, desk-after-line};
 use crate::amending::amend;
 use crate::answers::Answer;
 use crate::answers::Reply;
 use crate::kinds::flows;
 use crate::kinds::joint;
+use crate::kinds::verdict;
+use checker::verdict::Workspace;
 use commands::lines::Line;
 use commands::reading::read;
 use commands::types::Command;
@@ -18,6 +20,7 @@ use holding::open::OpenHolds;
 use holding::shares::Counts;
 use holding::split::SplitHolding;
 use holding::split::SplitHolds;
+use program::layout::Layout;
 use words::ints::int_of_word;
 
 #[derive(Clone, Copy)]
@@ -64,6 +67,19 @@ impl Desk {
             Command::Amend { weight, correction } => match self.holding {
                 HoldingKind::Open => amend_in(OpenHolding::new(), weight, correction),
                 HoldingKind::Split(mask) => amend_in(SplitHolding::new(mask), weight, correction),
+            },
+        }
+    }
+
+    // The answer to the check of a program file, by the kind of levels that is chosen.
+    pub fn check(&self, workspace: &mut Workspace, file: &[u8]) -> Answer
+        ensures { λ r. ⌜ r ≡ check-answer (now (self .entry)) (now (file .entry)) ⌝ }
+    {
+        match verdict(self.levels, workspace, file) {
+            Ok(Layout { nodes, variables, procedures }) => Answer::Accepted { nodes, variables, procedures },
+            Err(refusal) => Answer::Refused {
+                row: refusal.row(),
+                place: refusal.place(),
             },
         }
     }

@@ -15,3 +15,9 @@ returns-in-NoInt g c = rw (c .in-NoInt .is) (c .write-in-NoInt .ensures .shows)
 
 pub returns-in-UnknownLevels : need.returns-in-UnknownLevels
 returns-in-UnknownLevels g c = rw (c .in-UnknownLevels .is) (c .write-in-UnknownLevels .ensures .shows)
+
+pub returns-in-NoDigits : need.returns-in-NoDigits
+returns-in-NoDigits g c = rw (c .in-NoDigits .is) (c .write-in-NoDigits .ensures .shows)
+
+pub returns-in-Unreadable : need.returns-in-Unreadable
+returns-in-Unreadable g c = rw (c .in-Unreadable .is) (c .write-in-Unreadable .ensures .shows)
