@@ -29,7 +29,11 @@ impl Workspace {
 
 // The counts of the records of a file that no row refuses, or the first fault. No row refuses a file exactly where it is
 // a well-formed and well-typed program's; its data types, levels and exits are then unique, and its nodes are trees.
-pub fn verdict<L: Levels>(levels: &L, workspace: &mut Workspace, file: &[u8]) -> Result<Layout, Refusal>
+pub fn verdict<L: Levels>(
+    levels: &L,
+    workspace: &mut Workspace,
+    file: &[u8],
+) -> Result<Layout, Refusal>
     ensures value { λ r. ⌜ r ≡ verdict-of (L·Levels .rules) (now (file .entry)) ⌝ }
     ensures decides { λ _. ⌜ Decides-acceptance (L·Levels .rules) ⌝ }
     ensures sound { λ _. ⌜ Sound-acceptance (L·Levels .rules) ⌝ }

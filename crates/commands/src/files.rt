@@ -78,5 +78,9 @@ pub fn decode_digits(heap: Global, text: &[u8]) -> Result<Option<Vec<u8>>, Alloc
         bytes.push(byte)?;
         left = rest;
     }
-    if left.is_empty() { Ok(Some(bytes)) } else { Ok(None) }
+    if left.is_empty() {
+        Ok(Some(bytes))
+    } else {
+        Ok(None)
+    }
 }

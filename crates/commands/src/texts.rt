@@ -48,7 +48,10 @@ pub impl fmt::Display for Problem as ProblemDisplay {
             ),
             Problem::UnknownLevels => write!(f, "unknown kind of levels: two or members wanted"),
             Problem::UnknownHolding => write!(f, "unknown kind of holding: open or split wanted"),
-            Problem::NoDigits => write!(f, "argument 1 is no file: an even number of hexadecimal digits wanted"),
+            Problem::NoDigits => write!(
+                f,
+                "argument 1 is no file: an even number of hexadecimal digits wanted"
+            ),
             Problem::Unreadable => write!(f, "the file cannot be read"),
         }
     }

@@ -32,7 +32,10 @@ fn script(rt: &LibcRuntime) -> Result<Vec<u8>, AnyError> {
 }
 
 // The bytes of the file that a command names, or what is wrong.
-fn program_file(rt: &LibcRuntime, command: FileCommand<'_>) -> Result<Result<Vec<u8>, Problem>, AnyError> {
+fn program_file(
+    rt: &LibcRuntime,
+    command: FileCommand<'_>,
+) -> Result<Result<Vec<u8>, Problem>, AnyError> {
     match command.source {
         Source::Digits => Ok(decode_digits(rt.alloc(), command.text)?.ok_or(Problem::NoDigits)),
         Source::Path => match from_utf8(command.text) {
@@ -43,14 +46,25 @@ fn program_file(rt: &LibcRuntime, command: FileCommand<'_>) -> Result<Result<Vec
 }
 
 // The reply to a line, or nothing where it holds no command.
-fn reply(rt: &LibcRuntime, desk: &mut Desk, workspace: &mut Workspace, line: Line<'_>) -> Result<Option<Reply>, AnyError> {
+fn reply(
+    rt: &LibcRuntime,
+    desk: &mut Desk,
+    workspace: &mut Workspace,
+    line: Line<'_>,
+) -> Result<Option<Reply>, AnyError> {
     match read_file_command(line.bytes) {
         Ok(None) => Ok(desk.respond(line)),
         Ok(Some(command)) => match program_file(rt, command)? {
             Ok(file) => Ok(Some(Reply::Answer(desk.check(workspace, file.as_slice())))),
-            Err(problem) => Ok(Some(Reply::Error { line: line.number, problem })),
+            Err(problem) => Ok(Some(Reply::Error {
+                line: line.number,
+                problem,
+            })),
         },
-        Err(problem) => Ok(Some(Reply::Error { line: line.number, problem })),
+        Err(problem) => Ok(Some(Reply::Error {
+            line: line.number,
+            problem,
+        })),
     }
 }
 

@@ -16,10 +16,21 @@ pub enum Answer {
     Flows(bool),
     Joint(u32),
     // The sum as an int, and the holding's counts.
-    Amend { sum: i32, puts: u32, ops: u32 },
+    Amend {
+        sum: i32,
+        puts: u32,
+        ops: u32,
+    },
     // The counts of a file's records.
-    Accepted { nodes: usize, variables: usize, procedures: usize },
-    Refused { row: u8, place: u16 },
+    Accepted {
+        nodes: usize,
+        variables: usize,
+        procedures: usize,
+    },
+    Refused {
+        row: u8,
+        place: u16,
+    },
 }
 
 #[derive(Clone, Copy)]
@@ -39,7 +50,11 @@ pub impl fmt::Display for Answer as AnswerDisplay {
             Answer::Flows(false) => write!(f, "flows no"),
             Answer::Joint(level) => write!(f, "joint {level}"),
             Answer::Amend { sum, puts, ops } => write!(f, "amend {sum} {puts} {ops}"),
-            Answer::Accepted { nodes, variables, procedures } => write!(f, "accepted {nodes} {variables} {procedures}"),
+            Answer::Accepted {
+                nodes,
+                variables,
+                procedures,
+            } => write!(f, "accepted {nodes} {variables} {procedures}"),
             Answer::Refused { row, place } => write!(f, "refused {row} {place}"),
         }
     }

@@ -76,7 +76,17 @@ impl Desk {
         ensures { λ r. ⌜ r ≡ check-answer (now (self .entry)) (now (file .entry)) ⌝ }
     {
         match verdict(self.levels, workspace, file) {
-            Ok(Layout { nodes, variables, procedures }) => Answer::Accepted { nodes, variables, procedures },
+            Ok(
+                Layout {
+                    nodes,
+                    variables,
+                    procedures,
+                },
+            ) => Answer::Accepted {
+                nodes,
+                variables,
+                procedures,
+            },
             Err(refusal) => Answer::Refused {
                 row: refusal.row(),
                 place: refusal.place(),

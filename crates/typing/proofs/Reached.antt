@@ -118,23 +118,23 @@ parent n [] h = absurd (omega arith)
 parent n (x ∷ xs) h = parent-step n x xs (times-in n (children x)) refl (parent n xs) h
 
 module _
-  (r : Rules) (p : Program)
-  (lower : (n m : ℕ) (x : Node) → Node-is p n x → Among m (children x) → m < n)
-  (beside : (n m : ℕ) (x : Node) → Node-is p n x → Among m (children x) → home p m ≡ home p n)
-  (once : (n : ℕ) → n < length (p .nodes) → is-body (p .procedures) n ≡ false → times-child n (p .nodes) ≡ 1)
-  (bodies : (n : ℕ) → n < length (p .nodes) → is-body (p .procedures) n ≡ true → Derived r p (home p n) n)
+    (r : Rules) (p : Program)
+    (lower : (n m : ℕ) (x : Node) → Node-is p n x → Among m (children x) → m < n)
+    (beside : (n m : ℕ) (x : Node) → Node-is p n x → Among m (children x) → home p m ≡ home p n)
+    (once : (n : ℕ) → n < length (p .nodes) → is-body (p .procedures) n ≡ false → times-child n (p .nodes) ≡ 1)
+    (bodies : (n : ℕ) → n < length (p .nodes) → is-body (p .procedures) n ≡ true → Derived r p (home p n) n)
   where
-  reach : (k n : ℕ) → n < length (p .nodes) → length (p .nodes) ≤ n + k → Derived r p (home p n) n
-  unfolding Parent
-  reach zero n lt far = absurd (omega arith)
-  reach (suc k) n lt far =
-      ⊎-elim (bodies n lt)
-      (λ e.
+    reach : (k n : ℕ) → n < length (p .nodes) → length (p .nodes) ≤ n + k → Derived r p (home p n) n
+    unfolding Parent
+    reach zero n lt far = absurd (omega arith)
+    reach (suc k) n lt far =
+        ⊎-elim (bodies n lt)
+        (λ e.
         let (o, less, c) = parent n (p .nodes) (omega (arith, once n lt e)) in
         let h = at-there no-node (p .nodes) o less in
         let up = lower o n _ h c in
         subst (λ (q : ℕ). Derived r p q n) (sym (beside o n _ h c)) (child-derived r p (home p o) o n _ (reach k o less (omega arith)) h c))
-      (cases-bool (is-body (p .procedures) n))
+        (cases-bool (is-body (p .procedures) n))
 
-  pub reached : (n : ℕ) → n < length (p .nodes) → Derived r p (home p n) n
-  reached n lt = reach (length (p .nodes)) n lt (omega arith)
+    pub reached : (n : ℕ) → n < length (p .nodes) → Derived r p (home p n) n
+    reached n lt = reach (length (p .nodes)) n lt (omega arith)

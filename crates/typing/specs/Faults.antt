@@ -116,7 +116,7 @@ abbrev pub procedure-rows : List ℕ → ℕ → ℕ → List Variable → List 
 procedure-rows bs n m vs ds q d =
     or-else (unless (parameters-fit vs q d) (Bad-parameters q))
     (or-else (unless (body-stands bs n m ds q (d .body)) (Bad-body q))
-      (unless (main-fits m q d) (Bad-main q)))
+    (unless (main-fits m q d) (Bad-main q)))
 
 abbrev pub procedure-fault : Rules → List ℕ → ℕ → ℕ → List Variable → List ℕ → ℕ → Option Refusal
 procedure-fault r bs n m vs part q =
@@ -177,8 +177,8 @@ abbrev pub records-fault : Rules → Layout → List ℕ → Option Refusal
 records-fault r l bs =
     or-else (first (variable-fault r (l .procedures) (variable-part l bs)) (l .variables))
     (or-else (first (procedure-fault r bs (l .nodes) (l .procedures) (file-variables l bs) (procedure-part l bs)) (l .procedures))
-      (or-else (first (node-fault r (file-variables l bs) (file-procedures l bs) bs) (l .nodes))
-        (first (name-fault (file-procedures l bs) (file-nodes r l bs)) (l .nodes))))
+    (or-else (first (node-fault r (file-variables l bs) (file-procedures l bs) bs) (l .nodes))
+    (first (name-fault (file-procedures l bs) (file-nodes r l bs)) (l .nodes))))
 
 abbrev pub layout-fault : Rules → List ℕ → Result Layout Refusal → Option Refusal
 layout-fault r bs (Err e) = Some e
