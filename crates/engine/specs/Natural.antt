@@ -1,0 +1,1 @@
+-- The natural semantics. Assumes nothing.
