@@ -1,0 +1,2 @@
+-- Lemmas of holdings.
+pub mod ByShare

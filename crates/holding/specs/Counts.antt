@@ -2,6 +2,10 @@
 use Prim.Native.Nat.{ℕ, _+_, _%_, _^_}
 use Rattle.holding.specs.declared.shares.Counts.{Counts}
 
+-- nothing was put in or done yet
+abbrev pub none-yet : Counts
+none-yet = record { puts = 0; ops = 0 }
+
 -- one word more was put in
 abbrev pub one-put : Counts → Counts
 one-put c = record { puts = (c .puts + 1) % 2 ^ 32; ops = c .ops }

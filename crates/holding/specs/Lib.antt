@@ -1,2 +1,4 @@
+-- What the contracts of holdings cite.
 pub mod Stands
 pub mod Counts
+pub mod Splitting

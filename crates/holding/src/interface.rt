@@ -32,7 +32,13 @@ pub trait Holding {
         ensures stands { λ r. ⌜ stands r ≡ not-word (stands x) ⌝ }
         ensures counts { λ _. ⌜ counts (now (self .exit)) ≡ one-op (counts (now (self .entry))) ⌝ };
 
-    fn arithmetic(&mut self, operator: Arithmetic, data_type: DataType, x: Shares, y: Shares) -> Shares
+    fn arithmetic(
+        &mut self,
+        operator: Arithmetic,
+        data_type: DataType,
+        x: Shares,
+        y: Shares,
+    ) -> Shares
         ensures stands { λ r. ⌜ stands r ≡ held-arithmetic-word operator «data_type» (stands x) (stands y) ⌝ }
         ensures counts { λ _. ⌜ counts (now (self .exit)) ≡ one-op (counts (now (self .entry))) ⌝ };
 

@@ -43,36 +43,36 @@ module _ (w : ℕ) where
 
   pub set-lawful : Lawful (set-rules w)
   set-lawful =
-      record
-        { reflexive = λ x h. let p = ltb-true x (2 ^ w) h in flowing x x (record { from = p; into = p; subset = and-self x })
-        ; transitive = λ x y z h k.
+      record {
+        reflexive = λ x h. let p = ltb-true x (2 ^ w) h in flowing x x (record { from = p; into = p; subset = and-self x });
+        transitive = λ x y z h k.
             let f = flowed x y h in
             let g = flowed y z k in
-            flowing x z (record { from = f .from; into = g .into; subset = subset-transitive x y z (f .subset) (g .subset) })
-        ; public-level = lt-ltb 0 (2 ^ w) (pow-pos w)
-        ; public-below = λ x h. flowing 0 x (record { from = pow-pos w; into = ltb-true x (2 ^ w) h; subset = and-zero-l x })
-        ; public-alone = λ x h. sym (flowed x 0 h .subset) ∙ and-zero-r x
-        ; joint-level = λ x y h k.
+            flowing x z (record { from = f .from; into = g .into; subset = subset-transitive x y z (f .subset) (g .subset) });
+        public-level = lt-ltb 0 (2 ^ w) (pow-pos w);
+        public-below = λ x h. flowing 0 x (record { from = pow-pos w; into = ltb-true x (2 ^ w) h; subset = and-zero-l x });
+        public-alone = λ x h. sym (flowed x 0 h .subset) ∙ and-zero-r x;
+        joint-level = λ x y h k.
             let p = ltb-true x (2 ^ w) h in
             let q = ltb-true y (2 ^ w) k in
-            ap (λ m. ltb m (2 ^ w)) (union x y p q) ∙ lt-ltb (bitOr x y) (2 ^ w) (or-lt w x y p q)
-        ; joint-left = λ x y h k.
+            ap (λ m. ltb m (2 ^ w)) (union x y p q) ∙ lt-ltb (bitOr x y) (2 ^ w) (or-lt w x y p q);
+        joint-left = λ x y h k.
             let p = ltb-true x (2 ^ w) h in
             let q = ltb-true y (2 ^ w) k in
             ap (set-rules w .flows x) (union x y p q)
-            ∙ flowing x (bitOr x y) (record { from = p; into = or-lt w x y p q; subset = subset-union x y })
-        ; joint-right = λ x y h k.
+            ∙ flowing x (bitOr x y) (record { from = p; into = or-lt w x y p q; subset = subset-union x y });
+        joint-right = λ x y h k.
             let p = ltb-true x (2 ^ w) h in
             let q = ltb-true y (2 ^ w) k in
             ap (set-rules w .flows y) (union x y p q)
-            ∙ flowing y (bitOr x y) (record { from = q; into = or-lt w x y p q; subset = ap (bitAnd y) (or-comm x y) ∙ subset-union y x })
-        ; joint-least = λ x y z h k.
+            ∙ flowing y (bitOr x y) (record { from = q; into = or-lt w x y p q; subset = ap (bitAnd y) (or-comm x y) ∙ subset-union y x });
+        joint-least = λ x y z h k.
             let f = flowed x z h in
             let g = flowed y z k in
             ap (λ m. set-rules w .flows m z) (union x y (f .from) (g .from))
-            ∙ flowing (bitOr x y) z (record { from = or-lt w x y (f .from) (g .from); into = f .into; subset = union-least x y z (f .subset) (g .subset) })
-        ; denied-from = λ x y h. ap (λ b. (b && ltb y (2 ^ w)) && eqb (bitAnd x y) x) h
-        ; denied-into = λ x y h. ap (λ b. b && eqb (bitAnd x y) x) (neither (ltb x (2 ^ w)) (ltb y (2 ^ w)) h)
-        ; joint-none-left = λ x y h. ap (λ b. cond (b && ltb y (2 ^ w)) (bitOr x y) 0) h
-        ; joint-none-right = λ x y h. ap (λ b. cond b (bitOr x y) 0) (neither (ltb x (2 ^ w)) (ltb y (2 ^ w)) h)
-        }
+            ∙ flowing (bitOr x y) z (record { from = or-lt w x y (f .from) (g .from); into = f .into; subset = union-least x y z (f .subset) (g .subset) });
+        denied-from = λ x y h. ap (λ b. (b && ltb y (2 ^ w)) && eqb (bitAnd x y) x) h;
+        denied-into = λ x y h. ap (λ b. b && eqb (bitAnd x y) x) (neither (ltb x (2 ^ w)) (ltb y (2 ^ w)) h);
+        joint-none-left = λ x y h. ap (λ b. cond (b && ltb y (2 ^ w)) (bitOr x y) 0) h;
+        joint-none-right = λ x y h. ap (λ b. cond b (bitOr x y) 0) (neither (ltb x (2 ^ w)) (ltb y (2 ^ w)) h);
+      }

@@ -33,7 +33,7 @@ pub union-least : (x y z : ℕ) → Subset x z → Subset y z → Subset (bitOr 
 union-least =
     bin-ind (λ (x : ℕ). (y z : ℕ) → Subset x z → Subset y z → Subset (bitOr x y) z) (λ y z p q. q)
     (λ x ih y z p q.
-      let a = down x z p in
-      let b = down y z q in
-      let u = union-down x y in
-      up (bitOr x y) z (ap (λ m. bitAnd m (z / 2)) (u .0) ∙ ih (y / 2) (z / 2) (a .0) (b .0) ∙ sym (u .0)) (omega arith))
+    let a = down x z p in
+    let b = down y z q in
+    let u = union-down x y in
+    up (bitOr x y) z (ap (λ m. bitAnd m (z / 2)) (u .0) ∙ ih (y / 2) (z / 2) (a .0) (b .0) ∙ sym (u .0)) (omega arith))

@@ -38,7 +38,11 @@ pub impl Levels for TwoLevel as TwoLevelLevels {
     }
 
     fn joint(&self, one: u32, other: u32) -> u32 {
-        if one < 2 && other < 2 { one.max(other) } else { 0 }
+        if one < 2 && other < 2 {
+            one.max(other)
+        } else {
+            0
+        }
     }
 }
 
@@ -58,6 +62,10 @@ pub impl Levels for MemberSets as MemberSetsLevels {
     }
 
     fn joint(&self, one: u32, other: u32) -> u32 {
-        if one < 65536 && other < 65536 { one | other } else { 0 }
+        if one < 65536 && other < 65536 {
+            one | other
+        } else {
+            0
+        }
     }
 }

@@ -1,8 +1,8 @@
 -- A program as its lists of records. Assumes nothing.
 use mathlib.Core.Bool.{cond}
 use mathlib.Core.List.{List, [], _∷_}
-use Prim.Native.Nat.{ℕ}
-use lib.Dec.{ltb}
+use Prim.Native.Nat.{ℕ, _+_}
+use lib.Dec.{eqb, ltb}
 use lib.ListN.{getD, length}
 use Rattle.std.specs.declared.option.Option.{Option}
 use Rattle.std.specs.declared.option.Option.the-variants.{Some, None}
@@ -62,3 +62,8 @@ children Break = []
 children Continue = []
 children (Definition v) = []
 children (Output a) = a ∷ []
+
+-- how often a number stands in a list
+abbrev pub times-in : ℕ → List ℕ → ℕ
+times-in k [] = 0
+times-in k (x ∷ xs) = cond (eqb x k) 1 0 + times-in k xs

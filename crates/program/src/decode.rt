@@ -62,21 +62,41 @@ fn constant(f: NodeFields) -> Option<Node>
         DataType::Bool => f.word < 2,
         DataType::Int | DataType::Unsigned => true,
     };
-    node_if(fits && f.a == 0 && f.b == 0 && f.c == 0, Node::Constant { data_type, word: f.word })
+    node_if(
+        fits && f.a == 0 && f.b == 0 && f.c == 0,
+        Node::Constant {
+            data_type,
+            word: f.word,
+        },
+    )
 }
 
 fn arithmetic(f: NodeFields) -> Option<Node>
     ensures { λ r. ⌜ r ≡ arithmetic-decoded f ⌝ }
 {
     let operator = Arithmetic::from_number(f.sort)?;
-    node_if(f.c == 0 && f.word == 0, Node::Arithmetic { operator, left: f.a, right: f.b })
+    node_if(
+        f.c == 0 && f.word == 0,
+        Node::Arithmetic {
+            operator,
+            left: f.a,
+            right: f.b,
+        },
+    )
 }
 
 fn comparison(f: NodeFields) -> Option<Node>
     ensures { λ r. ⌜ r ≡ comparison-decoded f ⌝ }
 {
     let operator = Comparison::from_number(f.sort)?;
-    node_if(f.c == 0 && f.word == 0, Node::Comparison { operator, left: f.a, right: f.b })
+    node_if(
+        f.c == 0 && f.word == 0,
+        Node::Comparison {
+            operator,
+            left: f.a,
+            right: f.b,
+        },
+    )
 }
 
 // The node of a record, or none where its kind, sort, word or an unused field is bad.
@@ -90,19 +110,87 @@ pub fn decode_node(f: NodeFields) -> Option<Node>
         4 => node_if(uses_one(f), Node::Not { operand: f.a }),
         5 => arithmetic(f),
         6 => comparison(f),
-        7 => node_if(uses_two(f), Node::And { left: f.a, right: f.b }),
-        8 => node_if(uses_two(f), Node::Or { left: f.a, right: f.b }),
-        9 => node_if(uses_three(f), Node::Choice { condition: f.a, chosen: f.b, otherwise: f.c }),
-        10 => node_if(uses_two(f), Node::Assignment { variable: f.a, value: f.b }),
-        11 => node_if(uses_two(f), Node::Call { procedure: f.a, first: optional(f.b) }),
-        12 => node_if(uses_two(f), Node::Argument { value: f.a, next: optional(f.b) }),
+        7 => node_if(
+            uses_two(f),
+            Node::And {
+                left: f.a,
+                right: f.b,
+            },
+        ),
+        8 => node_if(
+            uses_two(f),
+            Node::Or {
+                left: f.a,
+                right: f.b,
+            },
+        ),
+        9 => node_if(
+            uses_three(f),
+            Node::Choice {
+                condition: f.a,
+                chosen: f.b,
+                otherwise: f.c,
+            },
+        ),
+        10 => node_if(
+            uses_two(f),
+            Node::Assignment {
+                variable: f.a,
+                value: f.b,
+            },
+        ),
+        11 => node_if(
+            uses_two(f),
+            Node::Call {
+                procedure: f.a,
+                first: optional(f.b),
+            },
+        ),
+        12 => node_if(
+            uses_two(f),
+            Node::Argument {
+                value: f.a,
+                next: optional(f.b),
+            },
+        ),
         13 => node_if(uses_one(f), Node::Release { operand: f.a }),
         20 => node_if(uses_one(f), Node::Expression { value: f.a }),
-        21 => node_if(uses_two(f), Node::Sequence { first: f.a, second: f.b }),
-        22 => node_if(uses_two(f), Node::If { condition: f.a, branch: f.b }),
-        23 => node_if(uses_three(f), Node::IfElse { condition: f.a, branch: f.b, otherwise: f.c }),
-        24 => node_if(uses_two(f), Node::While { condition: f.a, body: f.b }),
-        25 => node_if(uses_two(f), Node::DoWhile { condition: f.a, body: f.b }),
+        21 => node_if(
+            uses_two(f),
+            Node::Sequence {
+                first: f.a,
+                second: f.b,
+            },
+        ),
+        22 => node_if(
+            uses_two(f),
+            Node::If {
+                condition: f.a,
+                branch: f.b,
+            },
+        ),
+        23 => node_if(
+            uses_three(f),
+            Node::IfElse {
+                condition: f.a,
+                branch: f.b,
+                otherwise: f.c,
+            },
+        ),
+        24 => node_if(
+            uses_two(f),
+            Node::While {
+                condition: f.a,
+                body: f.b,
+            },
+        ),
+        25 => node_if(
+            uses_two(f),
+            Node::DoWhile {
+                condition: f.a,
+                body: f.b,
+            },
+        ),
         27 => node_if(uses_one(f), Node::Return { value: f.a }),
         28 => node_if(uses_none(f), Node::ReturnVoid),
         29 => node_if(uses_none(f), Node::Break),
@@ -138,7 +226,11 @@ pub fn decode_variable(f: VariableFields) -> Option<Variable>
 {
     let role = role(f.role, f.owner)?;
     let data_type = DataType::from_number(f.data_type)?;
-    Some(Variable { role, data_type, level: f.level })
+    Some(Variable {
+        role,
+        data_type,
+        level: f.level,
+    })
 }
 
 // The result type of a number: void is 255.
@@ -160,6 +252,18 @@ pub fn decode_procedure(f: ProcedureFields) -> Option<Procedure>
     if f.spare != 0 {
         return None;
     }
-    let ProcedureFields { parameters, first_parameter, body, level, .. } = f;
-    Some(Procedure { result, parameters, first_parameter, body, level })
+    let ProcedureFields {
+        parameters,
+        first_parameter,
+        body,
+        level,
+        ..
+    } = f;
+    Some(Procedure {
+        result,
+        parameters,
+        first_parameter,
+        body,
+        level,
+    })
 }

@@ -37,7 +37,22 @@ pub struct ProcedureFields {
 pub fn split_node(bytes: &[u8]) -> Option<(NodeFields, &[u8])>
     ensures { λ r. ⌜ Cases r (length (now (bytes .entry)) < 12) (λ p. (12 ≤ length (now (bytes .entry))) × (p .0 ≡ node-fields-of (now (bytes .entry))) × (now (p .1) ≡ drop 12 (now (bytes .entry)))) ⌝ }
 {
-    let [kind, sort, a1, a0, b1, b0, c1, c0, w3, w2, w1, w0, rest @ ..] = bytes else {
+    let [
+        kind,
+        sort,
+        a1,
+        a0,
+        b1,
+        b0,
+        c1,
+        c0,
+        w3,
+        w2,
+        w1,
+        w0,
+        rest @ ..,
+    ] = bytes
+    else {
         return None;
     };
     let fields = NodeFields {
@@ -71,7 +86,22 @@ pub fn split_variable(bytes: &[u8]) -> Option<(VariableFields, &[u8])>
 pub fn split_procedure(bytes: &[u8]) -> Option<(ProcedureFields, &[u8])>
     ensures { λ r. ⌜ Cases r (length (now (bytes .entry)) < 12) (λ p. (12 ≤ length (now (bytes .entry))) × (p .0 ≡ procedure-fields-of (now (bytes .entry))) × (now (p .1) ≡ drop 12 (now (bytes .entry)))) ⌝ }
 {
-    let [result, parameters, f1, f0, b1, b0, s1, s0, l3, l2, l1, l0, rest @ ..] = bytes else {
+    let [
+        result,
+        parameters,
+        f1,
+        f0,
+        b1,
+        b0,
+        s1,
+        s0,
+        l3,
+        l2,
+        l1,
+        l0,
+        rest @ ..,
+    ] = bytes
+    else {
         return None;
     };
     let fields = ProcedureFields {

@@ -36,7 +36,12 @@ fn number_at(file: &[u8], place: usize) -> usize
     requires { ⌜ place + 4 ≤ length (now file) ⌝ }
     ensures { λ r. ⌜ r ≡ word-at (now (file .entry)) place ⌝ }
 {
-    u32::from_be_bytes([file[place], file[place + 1], file[place + 2], file[place + 3]]) as usize
+    u32::from_be_bytes([
+        file[place],
+        file[place + 1],
+        file[place + 2],
+        file[place + 3],
+    ]) as usize
 }
 
 // Whether the places rise up to the trailer and cut whole records.

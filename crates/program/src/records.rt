@@ -6,31 +6,93 @@ use words::types::DataType;
 // A node of a program's trees. Nodes, variables and procedures are named by their numbers.
 #[derive(Clone, Copy)]
 pub enum Node {
-    Constant { data_type: DataType, word: u32 },
-    Variable { variable: u16 },
-    Minus { operand: u16 },
-    Not { operand: u16 },
-    Arithmetic { operator: Arithmetic, left: u16, right: u16 },
-    Comparison { operator: Comparison, left: u16, right: u16 },
-    And { left: u16, right: u16 },
-    Or { left: u16, right: u16 },
-    Choice { condition: u16, chosen: u16, otherwise: u16 },
-    Assignment { variable: u16, value: u16 },
-    Call { procedure: u16, first: Option<u16> },
-    Argument { value: u16, next: Option<u16> },
-    Release { operand: u16 },
-    Expression { value: u16 },
-    Sequence { first: u16, second: u16 },
-    If { condition: u16, branch: u16 },
-    IfElse { condition: u16, branch: u16, otherwise: u16 },
-    While { condition: u16, body: u16 },
-    DoWhile { condition: u16, body: u16 },
-    Return { value: u16 },
+    Constant {
+        data_type: DataType,
+        word: u32,
+    },
+    Variable {
+        variable: u16,
+    },
+    Minus {
+        operand: u16,
+    },
+    Not {
+        operand: u16,
+    },
+    Arithmetic {
+        operator: Arithmetic,
+        left: u16,
+        right: u16,
+    },
+    Comparison {
+        operator: Comparison,
+        left: u16,
+        right: u16,
+    },
+    And {
+        left: u16,
+        right: u16,
+    },
+    Or {
+        left: u16,
+        right: u16,
+    },
+    Choice {
+        condition: u16,
+        chosen: u16,
+        otherwise: u16,
+    },
+    Assignment {
+        variable: u16,
+        value: u16,
+    },
+    Call {
+        procedure: u16,
+        first: Option<u16>,
+    },
+    Argument {
+        value: u16,
+        next: Option<u16>,
+    },
+    Release {
+        operand: u16,
+    },
+    Expression {
+        value: u16,
+    },
+    Sequence {
+        first: u16,
+        second: u16,
+    },
+    If {
+        condition: u16,
+        branch: u16,
+    },
+    IfElse {
+        condition: u16,
+        branch: u16,
+        otherwise: u16,
+    },
+    While {
+        condition: u16,
+        body: u16,
+    },
+    DoWhile {
+        condition: u16,
+        body: u16,
+    },
+    Return {
+        value: u16,
+    },
     ReturnVoid,
     Break,
     Continue,
-    Definition { variable: u16 },
-    Output { operand: u16 },
+    Definition {
+        variable: u16,
+    },
+    Output {
+        operand: u16,
+    },
 }
 
 // Where a variable belongs; locals and parameters to the procedure of a number.

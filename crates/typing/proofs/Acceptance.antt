@@ -16,7 +16,7 @@ use Rattle.levels.specs.Rules.{Rules}
 use Rattle.program.proofs.Files.{counts-of}
 use Rattle.program.proofs.Statements.{statement-node, kind-of-statement}
 use Rattle.program.specs.Decode.{is-statement-kind}
-use Rattle.program.specs.Program.{Program, at, children, no-node, no-variable, no-procedure}
+use Rattle.program.specs.Program.{Program, at, children, times-in, no-node, no-variable, no-procedure}
 use Rattle.program.specs.declared.layout.Layout.{Layout}
 use Rattle.program.specs.declared.records.Node.{Node}
 use Rattle.program.specs.declared.records.Variable.{Variable}
@@ -24,7 +24,7 @@ use Rattle.program.specs.declared.records.Procedure.{Procedure}
 use Rattle.program.specs.declared.refusal.Refusal.{Refusal}
 use Rattle.program.specs.declared.refusal.Refusal.the-variants.{Naming as Bad-naming}
 use Rattle.typing.specs.Environment.{Environment, procedure-of, body-in}
-use Rattle.typing.specs.Faults.{known, node-record, variable-record, procedure-record, variables-in, procedures-in, variable-part, procedure-part, file-variables, file-procedures, file-nodes, environment, typed-node, typed-nodes, variable-fits, variable-fault, result-fits, parameters-fit, rises, body-stands, main-fits, procedure-rows, procedure-fault, record-fault, node-fault, times-in, times-named, is-body, name-fault, records-fault}
+use Rattle.typing.specs.Faults.{known, node-record, variable-record, procedure-record, variables-in, procedures-in, variable-part, procedure-part, file-variables, file-procedures, file-nodes, environment, typed-node, typed-nodes, variable-fits, variable-fault, result-fits, parameters-fit, rises, body-stands, main-fits, procedure-rows, procedure-fault, record-fault, node-fault, times-named, is-body, name-fault, records-fault}
 use Rattle.typing.specs.First.{or-else, unless, first, table}
 use Rattle.typing.specs.Formed.{times-child}
 use Rattle.typing.specs.Rows.{first-broken, node-rows}
@@ -143,7 +143,7 @@ module _ (r : Rules) (bs : List ℕ) (p : Program) (reads : Reads bs p (counts-o
   rises-told : (q b : ℕ) → q < length (p .procedures) → rises (procedures-in parts q) b ≡ true → (o : ℕ) (d : Procedure) → suc o ≡ q → Procedure-is p o d → d .body < b
   rises-told q b lt h o d e i =
       let up = ltb-true (getD (p .procedures) o no-procedure .body) b
-            (sym (rises-after o b (omega arith)) ∙ ap (λ k. rises (procedures-in parts k) b) e ∙ h) in
+      (sym (rises-after o b (omega arith)) ∙ ap (λ k. rises (procedures-in parts k) b) e ∙ h) in
       subst (λ (c : Procedure). c .body < b) (at-item no-procedure (p .procedures) o d i) up
 
   rises-shown : (q b : ℕ) → q < length (p .procedures) → ((o : ℕ) (d : Procedure) → suc o ≡ q → Procedure-is p o d → d .body < b) → rises (procedures-in parts q) b ≡ true
@@ -183,14 +183,15 @@ module _ (r : Rules) (bs : List ℕ) (p : Program) (reads : Reads bs p (counts-o
       let u = and-parts _ (is-statement-kind (getD bs (12 * d .body) 0)) (t .0) in
       let v = and-parts (rises (procedures-in parts q) (d .body)) (ltb (d .body) (length (p .nodes))) (u .0) in
       let body = ltb-true (d .body) (length (p .nodes)) (v .1) in
-      record
-      { result = result
-      ; parameters = passed _ _ (a .0)
-      ; above = rises-told q (d .body) lt (v .0)
-      ; body = body
-      ; statement = λ x i. ap statement-node (sym (at-item no-node (p .nodes) (d .body) x i)) ∙ sym (kind-is (d .body) body) ∙ u .1
-      ; last = last-told q (d .body) (t .1)
-      ; main = passed _ _ (b .1) }
+      record {
+        result = result;
+        parameters = passed _ _ (a .0);
+        above = rises-told q (d .body) lt (v .0);
+        body = body;
+        statement = λ x i. ap statement-node (sym (at-item no-node (p .nodes) (d .body) x i)) ∙ sym (kind-is (d .body) body) ∙ u .1;
+        last = last-told q (d .body) (t .1);
+        main = passed _ _ (b .1);
+      }
 
   rows-shown : (q : ℕ) (d : Procedure) → Procedure-is p q d → Procedure-checks r p q d → Rows q d ≡ None
   unfolding Rows
@@ -198,12 +199,12 @@ module _ (r : Rules) (bs : List ℕ) (p : Program) (reads : Reads bs p (counts-o
       let lt = at-below no-procedure (p .procedures) q d h in
       neither _ _ (shown _ _ (c .parameters))
       (neither _ _
-        (shown _ _
-          (and-from _ _
-            (and-from _ _ (and-from _ _ (rises-shown q (d .body) lt (c .above)) (lt-ltb (d .body) (length (p .nodes)) (c .body)))
-              (kind-is (d .body) (c .body) ∙ c .statement (getD (p .nodes) (d .body) no-node) (at-there no-node (p .nodes) (d .body) (c .body))))
-            (last-shown q (d .body) (c .last))))
-        (shown _ _ (c .main)))
+      (shown _ _
+      (and-from _ _
+      (and-from _ _ (and-from _ _ (rises-shown q (d .body) lt (c .above)) (lt-ltb (d .body) (length (p .nodes)) (c .body)))
+      (kind-is (d .body) (c .body) ∙ c .statement (getD (p .nodes) (d .body) no-node) (at-there no-node (p .nodes) (d .body) (c .body))))
+      (last-shown q (d .body) (c .last))))
+      (shown _ _ (c .main)))
 
   -- ---- the faults of the file, with its records in their places
 
@@ -223,14 +224,14 @@ module _ (r : Rules) (bs : List ℕ) (p : Program) (reads : Reads bs p (counts-o
   unfolding Variables Procedures Nodes Names parts
   faults-are =
       ap₂ (λ (vs : List Variable) (ds : List Procedure).
-        or-else (first (variable-fault r (length (p .procedures)) (variable-part (counts-of p) bs)) (length (p .variables)))
-        (or-else (first (procedure-fault r bs (length (p .nodes)) (length (p .procedures)) vs (procedure-part (counts-of p) bs)) (length (p .procedures)))
-          (or-else (first (node-fault r vs ds bs) (length (p .nodes))) (first (name-fault ds (typed-nodes r vs ds bs (length (p .nodes)))) (length (p .nodes))))))
+      or-else (first (variable-fault r (length (p .procedures)) (variable-part (counts-of p) bs)) (length (p .variables)))
+      (or-else (first (procedure-fault r bs (length (p .nodes)) (length (p .procedures)) vs (procedure-part (counts-of p) bs)) (length (p .procedures)))
+      (or-else (first (node-fault r vs ds bs) (length (p .nodes))) (first (name-fault ds (typed-nodes r vs ds bs (length (p .nodes)))) (length (p .nodes))))))
       (variables-are r bs p (counts-of p) reads) (procedures-are r bs p (counts-of p) reads)
       ∙ ap (λ (ns : List TypedNode).
-        or-else (first (variable-fault r (length (p .procedures)) (variable-part (counts-of p) bs)) (length (p .variables)))
-        (or-else (first (procedure-fault r bs (length (p .nodes)) (length (p .procedures)) (p .variables) (procedure-part (counts-of p) bs)) (length (p .procedures)))
-          (or-else (first (node-fault r (p .variables) (p .procedures) bs) (length (p .nodes))) (first (name-fault (p .procedures) ns) (length (p .nodes))))))
+      or-else (first (variable-fault r (length (p .procedures)) (variable-part (counts-of p) bs)) (length (p .variables)))
+      (or-else (first (procedure-fault r bs (length (p .nodes)) (length (p .procedures)) (p .variables) (procedure-part (counts-of p) bs)) (length (p .procedures)))
+      (or-else (first (node-fault r (p .variables) (p .procedures) bs) (length (p .nodes))) (first (name-fault (p .procedures) ns) (length (p .nodes))))))
       (typed-are r bs p (counts-of p) reads (length (p .nodes)) (le-refl (length (p .nodes))))
 
   variable-told : (i : ℕ) (v : Variable) → Variable-is p i v → Variables i ≡ None → variable-fits r (length (p .procedures)) (Some v) ≡ true
@@ -266,22 +267,23 @@ module _ (r : Rules) (bs : List ℕ) (p : Program) (reads : Reads bs p (counts-o
       let a = either-none (first Variables (length (p .variables))) _ (sym faults-are ∙ h) in
       let b = either-none (first Procedures (length (p .procedures))) _ (a .1) in
       let c = either-none (first Nodes (length (p .nodes))) (first Names (length (p .nodes))) (b .1) in
-      record
-      { sizes = sizes
-      ; variables = λ i v j. variable-told i v j (none-at Variables i (length (p .variables)) (a .0) (at-below no-variable (p .variables) i v j))
-      ; procedures = λ q d j. procedure-told q d j (none-at Procedures q (length (p .procedures)) (b .0) (at-below no-procedure (p .procedures) q d j))
-      ; nodes = λ n x j.
-          let lt = at-below no-node (p .nodes) n x j in
-          ap (λ y. first-broken r (below r p n) n (home p n) y node-rows) (sym (at-item no-node (p .nodes) n x j))
-          ∙ sym (node-fault-is r bs p (counts-of p) reads n lt) ∙ none-at Nodes n (length (p .nodes)) (c .0) lt
-      ; names = λ n lt. passed _ _ (sym (name-is n) ∙ none-at Names n (length (p .nodes)) (c .1) lt) }
+      record {
+        sizes = sizes;
+        variables = λ i v j. variable-told i v j (none-at Variables i (length (p .variables)) (a .0) (at-below no-variable (p .variables) i v j));
+        procedures = λ q d j. procedure-told q d j (none-at Procedures q (length (p .procedures)) (b .0) (at-below no-procedure (p .procedures) q d j));
+        nodes = λ n x j.
+            let lt = at-below no-node (p .nodes) n x j in
+            ap (λ y. first-broken r (below r p n) n (home p n) y node-rows) (sym (at-item no-node (p .nodes) n x j))
+            ∙ sym (node-fault-is r bs p (counts-of p) reads n lt) ∙ none-at Nodes n (length (p .nodes)) (c .0) lt;
+        names = λ n lt. passed _ _ (sym (name-is n) ∙ none-at Names n (length (p .nodes)) (c .1) lt);
+      }
 
   pub faults-from-checks : Checks r p → records-fault r (counts-of p) bs ≡ None
   unfolding Nodes
   faults-from-checks k =
       faults-are
       ∙ neither _ _ (all-none Variables (length (p .variables)) (λ i lt. variable-shown i lt (k .variables i _ (at-there no-variable (p .variables) i lt))))
-        (neither _ _ (all-none Procedures (length (p .procedures)) (λ q lt. procedure-shown q lt (k .procedures q _ (at-there no-procedure (p .procedures) q lt))))
-          (neither _ _
-            (all-none Nodes (length (p .nodes)) (λ n lt. node-fault-is r bs p (counts-of p) reads n lt ∙ k .nodes n _ (at-there no-node (p .nodes) n lt)))
-            (all-none Names (length (p .nodes)) (λ n lt. name-is n ∙ shown _ _ (k .names n lt)))))
+      (neither _ _ (all-none Procedures (length (p .procedures)) (λ q lt. procedure-shown q lt (k .procedures q _ (at-there no-procedure (p .procedures) q lt))))
+      (neither _ _
+      (all-none Nodes (length (p .nodes)) (λ n lt. node-fault-is r bs p (counts-of p) reads n lt ∙ k .nodes n _ (at-there no-node (p .nodes) n lt)))
+      (all-none Names (length (p .nodes)) (λ n lt. name-is n ∙ shown _ _ (k .names n lt)))))

@@ -20,7 +20,7 @@ use Rattle.program.proofs.Layouts.{laid-from-layout, layout-from-laid}
 use Rattle.program.proofs.Recoded.{Plain-node, decodes-encoded-node, decodes-encoded-variable, decodes-encoded-procedure, encodes-decoded-node, encodes-decoded-variable, encodes-decoded-procedure}
 use Rattle.program.proofs.Rows.{each-cut, drop-each}
 use Rattle.typing.specs.Faults.{node-record, variable-record, procedure-record, variable-part, procedure-part}
-use Rattle.typing.specs.Formed.{Bytes}
+use Rattle.typing.specs.Acceptance.{Bytes}
 use Rattle.typing.proofs.Readings.{Reads}
 
 -- ---- a file that reads as a program is the program's

@@ -123,19 +123,20 @@ module _ (r : Rules) (p : Program) (k : Checks r p) where
       let level = and-parts (r .is-level (d .level)) (void-fits (d .result) (d .level)) (c .result) in
       let m = parameters-told (p .variables) q d (c .parameters) in
       let main : suc q ≡ length (p .procedures) → (is-absent (d .result) && eqb (d .parameters) 0) ≡ true = λ e. or-told (eqb (q + 1) (length (p .procedures))) _ (c .main) (eq-eqb (q + 1) (length (p .procedures)) (omega arith)) in
-      record
-      { level = level .0
-      ; void-public = void-told (d .result) (d .level) (level .1)
-      ; few = leb-true (d .parameters) 8 (m .few)
-      ; none = λ e. eqb-true (d .«first_parameter») 0 (or-told (eqb (d .parameters) 0) _ (m .none) (eq-eqb (d .parameters) 0 e))
-      ; there = there q d h
-      ; owned = λ i v j w. parameter-told q (v .role) (parameter-at i q v d j h ∙ within-shown (d .«first_parameter») (d .parameters) i w)
-      ; all-owned = λ i v j e. within-told (d .«first_parameter») (d .parameters) i (sym (parameter-at i q v d j h) ∙ ap (is-parameter-of q) e ∙ eq-eqb q q refl)
-      ; rises = λ o b lt j. rises o q b d lt j h
-      ; body = c .body
-      ; main-last = c .last
-      ; main-void = λ e. absent (d .result) (and-parts (is-absent (d .result)) (eqb (d .parameters) 0) (main e) .0)
-      ; main-bare = λ e. eqb-true (d .parameters) 0 (and-parts (is-absent (d .result)) (eqb (d .parameters) 0) (main e) .1) }
+      record {
+        level = level .0;
+        void-public = void-told (d .result) (d .level) (level .1);
+        few = leb-true (d .parameters) 8 (m .few);
+        none = λ e. eqb-true (d .«first_parameter») 0 (or-told (eqb (d .parameters) 0) _ (m .none) (eq-eqb (d .parameters) 0 e));
+        there = there q d h;
+        owned = λ i v j w. parameter-told q (v .role) (parameter-at i q v d j h ∙ within-shown (d .«first_parameter») (d .parameters) i w);
+        all-owned = λ i v j e. within-told (d .«first_parameter») (d .parameters) i (sym (parameter-at i q v d j h) ∙ ap (is-parameter-of q) e ∙ eq-eqb q q refl);
+        rises = λ o b lt j. rises o q b d lt j h;
+        body = c .body;
+        main-last = c .last;
+        main-void = λ e. absent (d .result) (and-parts (is-absent (d .result)) (eqb (d .parameters) 0) (main e) .0);
+        main-bare = λ e. eqb-true (d .parameters) 0 (and-parts (is-absent (d .result)) (eqb (d .parameters) 0) (main e) .1);
+      }
 
   -- ---- nodes
 
@@ -238,15 +239,19 @@ module _ (r : Rules) (p : Program) (k : Checks r p) where
 
   pub formed : ((n w : ℕ) → Node-is p n (Constant Boolean w) → w < 2) → Well-formed r p
   formed bools =
-      record
-      { some-nodes = k .sizes .some-nodes; few-nodes = k .sizes .few-nodes; few-variables = k .sizes .few-variables
-      ; some-procedures = some; few-procedures = k .sizes .few-procedures
-      ; variables = λ i v h. variable-told r p v (k .variables i v h)
-      ; procedures = procedure-formed
-      ; bools = bools
-      ; below = λ n m x h c. lie n m x h c .0
-      ; together = together
-      ; once = named-once }
+      record {
+        some-nodes = k .sizes .some-nodes;
+        few-nodes = k .sizes .few-nodes;
+        few-variables = k .sizes .few-variables;
+        some-procedures = some;
+        few-procedures = k .sizes .few-procedures;
+        variables = λ i v h. variable-told r p v (k .variables i v h);
+        procedures = procedure-formed;
+        bools = bools;
+        below = λ n m x h c. lie n m x h c .0;
+        together = together;
+        once = named-once;
+      }
 
   -- ---- bodies
 
@@ -315,7 +320,8 @@ module _ (r : Rules) (p : Program) (k : Checks r p) where
       let same : home p n ≡ q = belongs-once p some rises last (home p n) q n (belongs p some rises last n lt) (body-belongs p some rises last q d h) in
       let f = sym (ap (λ (o : Option Procedure). body-fits n o (class-of r (below r p n) x)) (ap (at no-procedure (p .procedures)) same ∙ h)) ∙ rows-told (below r p n) n (home p n) x (k .nodes n x i) .1 in
       let state : is-statement (Some (typed r p n .class)) ≡ true = ap (λ (c : Class). is-statement (Some c)) e ∙ statement-classed (below r p n) x ∙ k .procedures q d h .statement x i in
-      record
-      { exits = class-exits (typed r p n .class)
-      ; statement = subst (λ (o : ℕ). Statement r p o n (class-exits (typed r p n .class))) same (as-statement r p (home p n) n (typed r p n .class) state (all-derive r p there passes-row n lt))
-      ; ends = subst (λ (c : Class). Ends (d .result) (class-exits c)) (sym e) (ends-told (d .result) (class-exits (class-of r (below r p n) x)) (body-fits-told n d (class-of r (below r p n) x) refl f)) }
+      record {
+        exits = class-exits (typed r p n .class);
+        statement = subst (λ (o : ℕ). Statement r p o n (class-exits (typed r p n .class))) same (as-statement r p (home p n) n (typed r p n .class) state (all-derive r p there passes-row n lt));
+        ends = subst (λ (c : Class). Ends (d .result) (class-exits c)) (sym e) (ends-told (d .result) (class-exits (class-of r (below r p n) x)) (body-fits-told n d (class-of r (below r p n) x) refl f));
+      }

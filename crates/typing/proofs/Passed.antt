@@ -106,24 +106,25 @@ module _ (r : Rules) (p : Program) (w : Well-formed r p) (t : Well-typed r p) wh
       let f = w .procedures q d h in
       and-from _ _
       (and-from _ _
-        (and-from _ _ (le-leb (d .parameters) 8 (f .few)) (le-leb (d .«first_parameter» + d .parameters) (length (p .variables)) (f .there)))
-        (or-shown (eqb (d .parameters) 0) _ (λ e. eq-eqb (d .«first_parameter») 0 (f .none (eqb-true (d .parameters) 0 e)))))
+      (and-from _ _ (le-leb (d .parameters) 8 (f .few)) (le-leb (d .«first_parameter» + d .parameters) (length (p .variables)) (f .there)))
+      (or-shown (eqb (d .parameters) 0) _ (λ e. eq-eqb (d .«first_parameter») 0 (f .none (eqb-true (d .parameters) 0 e)))))
       (all-below-from (owned-at (p .variables) q (d .«first_parameter») (d .parameters)) (length (p .variables)) (λ i lt. owned-passes q i d h lt))
 
   procedure-passes : (q : ℕ) (d : Procedure) → Procedure-is p q d → Procedure-checks r p q d
   procedure-passes q d h =
       let f = w .procedures q d h in
       let (y, i, s) = statement-kind (t q d h .statement) in
-      record
-      { result = and-from (r .is-level (d .level)) (void-fits (d .result) (d .level)) (f .level) (void-shown (d .result) (d .level) (f .void-public))
-      ; parameters = parameters-pass q d h
-      ; above = λ o b e j. f .rises o b (omega arith) j
-      ; body = f .body
-      ; statement = λ x j. let same : x ≡ y = cc in ap statement-node same ∙ s
-      ; last = f .main-last
-      ; main = or-shown (eqb (q + 1) (length (p .procedures))) _
-          (λ e. let last : suc q ≡ length (p .procedures) = omega (arith, eqb-true (q + 1) (length (p .procedures)) e) in
-            and-from (is-absent (d .result)) (eqb (d .parameters) 0) (absent-shown (d .result) (f .main-void last)) (eq-eqb (d .parameters) 0 (f .main-bare last))) }
+      record {
+        result = and-from (r .is-level (d .level)) (void-fits (d .result) (d .level)) (f .level) (void-shown (d .result) (d .level) (f .void-public));
+        parameters = parameters-pass q d h;
+        above = λ o b e j. f .rises o b (omega arith) j;
+        body = f .body;
+        statement = λ x j. let same : x ≡ y = cc in ap statement-node same ∙ s;
+        last = f .main-last;
+        main = or-shown (eqb (q + 1) (length (p .procedures))) _
+            (λ e. let last : suc q ≡ length (p .procedures) = omega (arith, eqb-true (q + 1) (length (p .procedures)) e) in
+            and-from (is-absent (d .result)) (eqb (d .parameters) 0) (absent-shown (d .result) (f .main-void last)) (eq-eqb (d .parameters) 0 (f .main-bare last)));
+      }
 
   -- ---- nodes
 
@@ -185,7 +186,7 @@ module _ (r : Rules) (p : Program) (w : Well-formed r p) (t : Well-typed r p) wh
       let same : y ≡ x = cc in
       let k = subst (Passes r (below r p n) n (home p n)) same a in
       row-shown _ _ _ (k .child) (row-shown _ _ _ (k .scope) (row-shown _ _ _ (k .called) (row-shown _ _ _ (k .types) (row-shown _ _ _ (k .levels)
-        (row-shown _ _ _ (and-from (parts-fit (below r p n) x) _ (k .parts) (body-passes n x h)) refl)))))
+      (row-shown _ _ _ (and-from (parts-fit (below r p n) x) _ (k .parts) (body-passes n x h)) refl)))))
 
   name-passes : (n : ℕ) → n < length (p .nodes) → (is-body (p .procedures) n || eqb (times-child n (p .nodes)) 1) ≡ true
   name-passes n lt =
@@ -195,9 +196,10 @@ module _ (r : Rules) (p : Program) (w : Well-formed r p) (t : Well-typed r p) wh
 
   pub checks : Checks r p
   checks =
-      record
-      { sizes = record { some-nodes = w .some-nodes; few-nodes = w .few-nodes; few-variables = w .few-variables; some-procedures = w .some-procedures; few-procedures = w .few-procedures }
-      ; variables = variable-passes
-      ; procedures = procedure-passes
-      ; nodes = node-passes
-      ; names = name-passes }
+      record {
+        sizes = record { some-nodes = w .some-nodes; few-nodes = w .few-nodes; few-variables = w .few-variables; some-procedures = w .some-procedures; few-procedures = w .few-procedures };
+        variables = variable-passes;
+        procedures = procedure-passes;
+        nodes = node-passes;
+        names = name-passes;
+      }

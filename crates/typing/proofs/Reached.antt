@@ -12,12 +12,12 @@ use Rattle.std.specs.declared.option.Option.{Option}
 use Rattle.std.specs.declared.option.Option.the-variants.{Some, None}
 use Rattle.words.specs.declared.types.DataType.{DataType}
 use Rattle.levels.specs.Rules.{Rules}
-use Rattle.program.specs.Program.{Program, children, no-node}
+use Rattle.program.specs.Program.{Program, children, times-in, no-node}
 use Rattle.program.specs.declared.records.Node.{Node}
 use Rattle.program.specs.declared.records.Node.the-variants.{Call, Argument as Argument-node}
 use Rattle.program.specs.declared.records.Variable.{Variable as Variable-record}
 use Rattle.program.specs.declared.records.Procedure.{Procedure}
-use Rattle.typing.specs.Faults.{times-in, is-body}
+use Rattle.typing.specs.Faults.{is-body}
 use Rattle.typing.specs.Formed.{Among, Belongs, Is-body, times-child}
 use Rattle.typing.specs.Typing.{Node-is, Procedure-is, Body, Well-typed, parameters-of, Expression, Arguments, Void-call, Statement, constant, variable, minus, not, arithmetic, comparison, and, or, choice, assignment, call, release, none, argument, void-call, expression, procedure-call, sequence, if, if-else, while, do-while, return, return-void, break, continue, definition, output}
 use Rattle.typing.specs.declared.classes.Exits.{Exits}
@@ -118,23 +118,23 @@ parent n [] h = absurd (omega arith)
 parent n (x ∷ xs) h = parent-step n x xs (times-in n (children x)) refl (parent n xs) h
 
 module _
-  (r : Rules) (p : Program)
-  (lower : (n m : ℕ) (x : Node) → Node-is p n x → Among m (children x) → m < n)
-  (beside : (n m : ℕ) (x : Node) → Node-is p n x → Among m (children x) → home p m ≡ home p n)
-  (once : (n : ℕ) → n < length (p .nodes) → is-body (p .procedures) n ≡ false → times-child n (p .nodes) ≡ 1)
-  (bodies : (n : ℕ) → n < length (p .nodes) → is-body (p .procedures) n ≡ true → Derived r p (home p n) n)
+    (r : Rules) (p : Program)
+    (lower : (n m : ℕ) (x : Node) → Node-is p n x → Among m (children x) → m < n)
+    (beside : (n m : ℕ) (x : Node) → Node-is p n x → Among m (children x) → home p m ≡ home p n)
+    (once : (n : ℕ) → n < length (p .nodes) → is-body (p .procedures) n ≡ false → times-child n (p .nodes) ≡ 1)
+    (bodies : (n : ℕ) → n < length (p .nodes) → is-body (p .procedures) n ≡ true → Derived r p (home p n) n)
   where
-  reach : (k n : ℕ) → n < length (p .nodes) → length (p .nodes) ≤ n + k → Derived r p (home p n) n
-  unfolding Parent
-  reach zero n lt far = absurd (omega arith)
-  reach (suc k) n lt far =
-      ⊎-elim (bodies n lt)
-      (λ e.
+    reach : (k n : ℕ) → n < length (p .nodes) → length (p .nodes) ≤ n + k → Derived r p (home p n) n
+    unfolding Parent
+    reach zero n lt far = absurd (omega arith)
+    reach (suc k) n lt far =
+        ⊎-elim (bodies n lt)
+        (λ e.
         let (o, less, c) = parent n (p .nodes) (omega (arith, once n lt e)) in
         let h = at-there no-node (p .nodes) o less in
         let up = lower o n _ h c in
         subst (λ (q : ℕ). Derived r p q n) (sym (beside o n _ h c)) (child-derived r p (home p o) o n _ (reach k o less (omega arith)) h c))
-      (cases-bool (is-body (p .procedures) n))
+        (cases-bool (is-body (p .procedures) n))
 
-  pub reached : (n : ℕ) → n < length (p .nodes) → Derived r p (home p n) n
-  reached n lt = reach (length (p .nodes)) n lt (omega arith)
+    pub reached : (n : ℕ) → n < length (p .nodes) → Derived r p (home p n) n
+    reached n lt = reach (length (p .nodes)) n lt (omega arith)

@@ -3,12 +3,12 @@ use Prim.Native.Nat.{ℕ, zero, suc, _+_, _-_, _*_, _<_, _≤_}
 use native.Mathlib.Nat.{zero-add, suc-add, mul-add, mul-one, eq-or-lt-of-le, le-refl, le-of-suc-le-suc, not-suc-le-zero, le-step}
 use native.Mathlib.Numerals.{add-one}
 use native.Mathlib.Omega.{arith}
-use mathlib.Core.Bool.{Bool, true, false, _&&_}
+use mathlib.Core.Bool.{Bool, true, false}
 use mathlib.Core.List.{List, [], _∷_, _++_}
 use mathlib.Core.Logic.{⊎-elim}
 use mathlib.Core.Path.{_≡_, refl, sym, _∙_, ap, subst}
-use lib.ListN.{length, drop, take, getD, length-append}
-use lib.Seq.{drop-drop, take-all, take-append-le, getD-at}
+use lib.ListN.{length, drop, getD, length-append}
+use lib.Seq.{drop-drop, getD-at}
 use Rattle.std.proofs.shelf.Lists.{getD-append-left}
 use Rattle.std.proofs.shelf.Tests.{and-parts, and-left}
 use Rattle.std.specs.declared.option.Option.{Option}
@@ -76,15 +76,6 @@ unfolding table
 length-table f zero = refl
 length-table f (suc n) =
     length-append (table f n) (f (table f n) n ∷ []) ∙ ap (λ (k : ℕ). k + 1) (length-table f n) ∙ add-one n
-
-pub take-table : {X : Type 0} (f : List X → ℕ → X) (k n : ℕ) → k ≤ n → take k (table f n) ≡ table f k
-unfolding table
-take-table f k zero h = let e : k ≡ 0 = omega arith in rw e
-take-table f k (suc n) h =
-    ⊎-elim
-    (λ e. rw e (take-all (suc n) (table f (suc n)) (rw (length-table f (suc n)) (le-refl (suc n)))))
-    (λ lt. take-append-le k (table f n) (f (table f n) n ∷ []) (rw (length-table f n) (le-of-suc-le-suc lt)) ∙ take-table f k n (le-of-suc-le-suc lt))
-    (eq-or-lt-of-le h)
 
 pub table-at : {X : Type 0} (f : List X → ℕ → X) (d : X) (k n : ℕ) → k < n → getD (table f n) k d ≡ f (table f k) k
 unfolding table

@@ -351,17 +351,17 @@ module _ (r : Rules) (p : Program) where
   -- ---- all nodes
 
   module _
-    (there : (g : ℕ) (d : Procedure) → Procedure-is p g d → d .«first_parameter» + d .parameters ≤ length (p .variables))
-    (passes : (n : ℕ) (x : Node) → Node-is p n x → Passes r (below r p n) n (home p n) x)
+      (there : (g : ℕ) (d : Procedure) → Procedure-is p g d → d .«first_parameter» + d .parameters ≤ length (p .variables))
+      (passes : (n : ℕ) (x : Node) → Node-is p n x → Passes r (below r p n) n (home p n) x)
     where
-    one-derives : (n : ℕ) → n < length (p .nodes) → ((m : ℕ) → m < n → Derives (home p m) m (typed r p m .class)) → Derives (home p n) n (typed r p n .class)
-    one-derives n lt before =
-        let h = at-there no-node (p .nodes) n lt in
-        subst (Derives (home p n) n) (sym (class-is r p n _ h)) (node-derives n before (home p n) _ h there (passes n _ h))
+      one-derives : (n : ℕ) → n < length (p .nodes) → ((m : ℕ) → m < n → Derives (home p m) m (typed r p m .class)) → Derives (home p n) n (typed r p n .class)
+      one-derives n lt before =
+          let h = at-there no-node (p .nodes) n lt in
+          subst (Derives (home p n) n) (sym (class-is r p n _ h)) (node-derives n before (home p n) _ h there (passes n _ h))
 
-    up-to : (k n : ℕ) → k ≤ length (p .nodes) → n < k → Derives (home p n) n (typed r p n .class)
-    up-to zero n few lt = absurd (not-suc-le-zero lt)
-    up-to (suc k) n few lt = one-derives n (omega arith) (λ m less. up-to k m (omega arith) (omega arith))
+      up-to : (k n : ℕ) → k ≤ length (p .nodes) → n < k → Derives (home p n) n (typed r p n .class)
+      up-to zero n few lt = absurd (not-suc-le-zero lt)
+      up-to (suc k) n few lt = one-derives n (omega arith) (λ m less. up-to k m (omega arith) (omega arith))
 
-    pub all-derive : (n : ℕ) → n < length (p .nodes) → Derives (home p n) n (typed r p n .class)
-    all-derive n lt = up-to (length (p .nodes)) n (le-refl (length (p .nodes))) lt
+      pub all-derive : (n : ℕ) → n < length (p .nodes) → Derives (home p n) n (typed r p n .class)
+      all-derive n lt = up-to (length (p .nodes)) n (le-refl (length (p .nodes))) lt

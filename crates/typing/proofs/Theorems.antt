@@ -23,7 +23,7 @@ use Rattle.program.proofs.Recoded.{Plain-node, decoded-bool}
 use Rattle.program.specs.Encode.{encoded}
 use Rattle.program.specs.Fields.{node-fields-of}
 use Rattle.program.specs.Layout.{layout-of}
-use Rattle.program.specs.Program.{Program, children, no-node, no-variable, no-procedure}
+use Rattle.program.specs.Program.{Program, children, times-in, no-node, no-variable, no-procedure}
 use Rattle.program.specs.declared.layout.Layout.{Layout}
 use Rattle.program.specs.declared.records.Node.{Node}
 use Rattle.program.specs.declared.records.Node.the-variants.{Constant, Call, Argument}
@@ -31,9 +31,10 @@ use Rattle.program.specs.declared.records.Variable.{Variable}
 use Rattle.program.specs.declared.records.Procedure.{Procedure}
 use Rattle.program.specs.declared.refusal.Refusal.{Refusal}
 use Rattle.typing.specs.Environment.{Environment}
-use Rattle.typing.specs.Faults.{known, node-record, variable-record, procedure-record, variable-part, procedure-part, file-variables, file-procedures, file-nodes, variable-fits, variable-fault, result-fits, procedure-rows, procedure-fault, record-fault, node-fault, name-fault, times-in, records-fault, layout-fault, first-fault, verdict-by, verdict-of}
+use Rattle.typing.specs.Faults.{known, node-record, variable-record, procedure-record, variable-part, procedure-part, file-variables, file-procedures, file-nodes, variable-fits, variable-fault, result-fits, procedure-rows, procedure-fault, record-fault, node-fault, name-fault, records-fault, layout-fault, first-fault, verdict-by, verdict-of}
 use Rattle.typing.specs.First.{or-else, unless, first, table}
-use Rattle.typing.specs.Formed.{Belongs, Among, times-child, Is-body, Well-formed, Accepted, Bytes, Decides-acceptance, Unique, Shaped, Sound-acceptance}
+use Rattle.typing.specs.Acceptance.{Bytes, Decides-acceptance, Unique, Shaped, Sound-acceptance}
+use Rattle.typing.specs.Formed.{Belongs, Among, times-child, Is-body, Well-formed, Accepted}
 use Rattle.typing.specs.Typing.{Node-is, Variable-is, Procedure-is, Expression, Statement, Well-typed, constant, variable, minus, not, arithmetic, comparison, and, or, choice, assignment, call, release}
 use Rattle.typing.specs.declared.classes.Class.the-variants.{Value, Statement as Statement-class}
 use Rattle.typing.specs.declared.classes.Exits.{Exits}
@@ -88,23 +89,24 @@ module _ (r : Rules) (bs : List ℕ) (l : Layout) (laid : layout-of bs ≡ Ok l)
   reads-file : Reads bs file l
   unfolding file Variables Procedures Nodes
   reads-file =
-      record
-      { layout = laid
-      ; nodes = sym (length-table (λ _ k. known no-node (node-record bs k)) (l .nodes))
-      ; variables = sym (length-table (λ _ i. known no-variable (variable-record (variable-part l bs) i)) (l .variables))
-      ; procedures = sym (length-table (λ _ q. known no-procedure (procedure-record (procedure-part l bs) q)) (l .procedures))
-      ; node = λ n lt.
-          let less = subst (λ (m : ℕ). n < m) (length-table (λ _ k. known no-node (node-record bs k)) (l .nodes)) lt in
-          node-known n _ _ (node-record bs n) (none-at Nodes n (l .nodes) (faultless .nodes) less)
-          ∙ ap Some (sym (table-at (λ _ k. known no-node (node-record bs k)) no-node n (l .nodes) less))
-      ; variable = λ i lt.
-          let less = subst (λ (m : ℕ). i < m) (length-table (λ _ k. known no-variable (variable-record (variable-part l bs) k)) (l .variables)) lt in
-          known-some no-variable (variable-fits r (l .procedures)) refl (variable-record (variable-part l bs) i) (passed _ _ (none-at Variables i (l .variables) (faultless .variables) less))
-          ∙ ap Some (sym (table-at (λ _ k. known no-variable (variable-record (variable-part l bs) k)) no-variable i (l .variables) less))
-      ; procedure = λ q lt.
-          let less = subst (λ (m : ℕ). q < m) (length-table (λ _ k. known no-procedure (procedure-record (procedure-part l bs) k)) (l .procedures)) lt in
-          known-some no-procedure (result-fits r) refl (procedure-record (procedure-part l bs) q) (passed _ _ (either-none (unless (result-fits r (procedure-record (procedure-part l bs) q)) _) _ (none-at Procedures q (l .procedures) (faultless .procedures) less) .0))
-          ∙ ap Some (sym (table-at (λ _ k. known no-procedure (procedure-record (procedure-part l bs) k)) no-procedure q (l .procedures) less)) }
+      record {
+        layout = laid;
+        nodes = sym (length-table (λ _ k. known no-node (node-record bs k)) (l .nodes));
+        variables = sym (length-table (λ _ i. known no-variable (variable-record (variable-part l bs) i)) (l .variables));
+        procedures = sym (length-table (λ _ q. known no-procedure (procedure-record (procedure-part l bs) q)) (l .procedures));
+        node = λ n lt.
+            let less = subst (λ (m : ℕ). n < m) (length-table (λ _ k. known no-node (node-record bs k)) (l .nodes)) lt in
+            node-known n _ _ (node-record bs n) (none-at Nodes n (l .nodes) (faultless .nodes) less)
+            ∙ ap Some (sym (table-at (λ _ k. known no-node (node-record bs k)) no-node n (l .nodes) less));
+        variable = λ i lt.
+            let less = subst (λ (m : ℕ). i < m) (length-table (λ _ k. known no-variable (variable-record (variable-part l bs) k)) (l .variables)) lt in
+            known-some no-variable (variable-fits r (l .procedures)) refl (variable-record (variable-part l bs) i) (passed _ _ (none-at Variables i (l .variables) (faultless .variables) less))
+            ∙ ap Some (sym (table-at (λ _ k. known no-variable (variable-record (variable-part l bs) k)) no-variable i (l .variables) less));
+        procedure = λ q lt.
+            let less = subst (λ (m : ℕ). q < m) (length-table (λ _ k. known no-procedure (procedure-record (procedure-part l bs) k)) (l .procedures)) lt in
+            known-some no-procedure (result-fits r) refl (procedure-record (procedure-part l bs) q) (passed _ _ (either-none (unless (result-fits r (procedure-record (procedure-part l bs) q)) _) _ (none-at Procedures q (l .procedures) (faultless .procedures) less) .0))
+            ∙ ap Some (sym (table-at (λ _ k. known no-procedure (procedure-record (procedure-part l bs) k)) no-procedure q (l .procedures) less));
+      }
 
   counts-are : l ≡ counts-of file
   counts-are = λ i. record { nodes = reads-file .nodes i; variables = reads-file .variables i; procedures = reads-file .procedures i }
@@ -115,10 +117,13 @@ module _ (r : Rules) (bs : List ℕ) (l : Layout) (laid : layout-of bs ≡ Ok l)
       let n = reads-file .nodes in
       let v = reads-file .variables in
       let q = reads-file .procedures in
-      record
-      { some-nodes = subst (λ (m : ℕ). 1 ≤ m) n (c .some-node); few-nodes = subst (λ (m : ℕ). m ≤ 1024) n (c .few-nodes)
-      ; few-variables = subst (λ (m : ℕ). m ≤ 128) v (c .few-variables)
-      ; some-procedures = subst (λ (m : ℕ). 1 ≤ m) q (c .some-procedure); few-procedures = subst (λ (m : ℕ). m ≤ 32) q (c .few-procedures) }
+      record {
+        some-nodes = subst (λ (m : ℕ). 1 ≤ m) n (c .some-node);
+        few-nodes = subst (λ (m : ℕ). m ≤ 1024) n (c .few-nodes);
+        few-variables = subst (λ (m : ℕ). m ≤ 128) v (c .few-variables);
+        some-procedures = subst (λ (m : ℕ). 1 ≤ m) q (c .some-procedure);
+        few-procedures = subst (λ (m : ℕ). m ≤ 32) q (c .few-procedures);
+      }
 
   bools : (n w : ℕ) → Node-is file n (Constant Boolean w) → w < 2
   bools n w h =
@@ -143,10 +148,11 @@ by-layout r bs (Err e) bytes laid h = false-true h
 plain : (r : Rules) (p : Program) → Well-formed r p → (n : ℕ) → n < length (p .nodes) → Plain-node (getD (p .nodes) n no-node)
 plain r p w n lt =
     let here : (x : Node) → getD (p .nodes) n no-node ≡ x → Node-is p n x = λ x e. at-there no-node (p .nodes) n lt ∙ ap Some e in
-    record
-    { bool = λ v e. w .bools n v (here _ e)
-    ; first = λ g k e far. omega (arith, w .below n k _ (here _ e) (inl refl), w .few-nodes)
-    ; next = λ a k e far. omega (arith, w .below n k _ (here _ e) (inr (inl refl)), w .few-nodes) }
+    record {
+      bool = λ v e. w .bools n v (here _ e);
+      first = λ g k e far. omega (arith, w .below n k _ (here _ e) (inl refl), w .few-nodes);
+      next = λ a k e far. omega (arith, w .below n k _ (here _ e) (inr (inl refl)), w .few-nodes);
+    }
 
 ok-from-none : (r : Rules) (bs : List ℕ) (l : Layout) → layout-of bs ≡ Ok l → records-fault r l bs ≡ None → isOk (verdict-of r bs) ≡ true
 unfolding first-fault
@@ -168,10 +174,11 @@ decides-acceptance r bs bytes = (by-layout r bs (layout-of bs) bytes refl, rejoi
 
 unique : (r : Rules) (p : Program) → Well-formed r p → Unique r p
 unique r p w =
-    record
-    { data-type = λ q n l m t u d e. let c = expression-class r p (w .below) d in let k = expression-class r p (w .below) e in cc
-    ; level = λ q n l m t u d e. let c = expression-class r p (w .below) d in let k = expression-class r p (w .below) e in cc
-    ; exits = λ q n x y d e. let c = statement-class r p (w .below) d in let k = statement-class r p (w .below) e in cc }
+    record {
+      data-type = λ q n l m t u d e. let c = expression-class r p (w .below) d in let k = expression-class r p (w .below) e in cc;
+      level = λ q n l m t u d e. let c = expression-class r p (w .below) d in let k = expression-class r p (w .below) e in cc;
+      exits = λ q n x y d e. let c = statement-class r p (w .below) d in let k = statement-class r p (w .below) e in cc;
+    }
 
 -- a number that stands in a list is counted there
 counted : (m : ℕ) (ms : List ℕ) → Among m ms → 1 ≤ times-in m ms
@@ -213,8 +220,8 @@ module _ (r : Rules) (p : Program) (w : Well-formed r p) (t : Well-typed r p) wh
       let at-o = subst (λ (z : Node). Among m (children z)) (sym (at-item no-node (p .nodes) o y i)) d in
       ⊎-elim (λ e. e)
       (⊎-elim
-        (λ less. absurd (omega (arith, counted-twice m n o (p .nodes) less lt′ at-n at-o)))
-        (λ less. absurd (omega (arith, counted-twice m o n (p .nodes) less lt at-o at-n))))
+      (λ less. absurd (omega (arith, counted-twice m n o (p .nodes) less lt′ at-n at-o)))
+      (λ less. absurd (omega (arith, counted-twice m o n (p .nodes) less lt at-o at-n))))
       (cases-order n o)
 
   calls-down : (n q g : ℕ) (f : Option ℕ) → Node-is p n (Call g f) → Belongs p q n → g < q
@@ -237,9 +244,10 @@ module _ (r : Rules) (p : Program) (w : Well-formed r p) (t : Well-typed r p) wh
   levels k (call {g = g} {d = d} h lt i u s) = w .procedures g d i .level
   levels k (release h d) = k .public-level
 
-pub sound-acceptance : (r : Rules) → Sound-acceptance r
+pub sound-acceptance : (r : Rules) → Lawful r → Sound-acceptance r
 sound-acceptance r k bs a =
     let p = a .program in
-    let w = a .formed in
-    ( unique r p w
-    , record { below = w .below; one-parent = one-parent r p w (a .typed); calls-down = calls-down r p w (a .typed); levels = λ q n l u d. levels r p w (a .typed) k d } )
+    let w = a .formed in (
+      unique r p w,
+      record { below = w .below; one-parent = one-parent r p w (a .typed); calls-down = calls-down r p w (a .typed); levels = λ q n l u d. levels r p w (a .typed) k d },
+    )

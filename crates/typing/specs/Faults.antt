@@ -13,7 +13,7 @@ use Rattle.levels.specs.Rules.{Rules}
 use Rattle.program.specs.Decode.{node-decoded, variable-decoded, procedure-decoded, is-statement-kind}
 use Rattle.program.specs.Fields.{node-fields-of, variable-fields-of, procedure-fields-of}
 use Rattle.program.specs.Layout.{layout-of}
-use Rattle.program.specs.Program.{at, children, no-node, no-variable, no-procedure}
+use Rattle.program.specs.Program.{at, children, times-in, no-node, no-variable, no-procedure}
 use Rattle.program.specs.declared.layout.Layout.{Layout}
 use Rattle.program.specs.declared.records.Node.{Node}
 use Rattle.program.specs.declared.records.Role.{Role}
@@ -116,7 +116,7 @@ abbrev pub procedure-rows : List ℕ → ℕ → ℕ → List Variable → List 
 procedure-rows bs n m vs ds q d =
     or-else (unless (parameters-fit vs q d) (Bad-parameters q))
     (or-else (unless (body-stands bs n m ds q (d .body)) (Bad-body q))
-      (unless (main-fits m q d) (Bad-main q)))
+    (unless (main-fits m q d) (Bad-main q)))
 
 abbrev pub procedure-fault : Rules → List ℕ → ℕ → ℕ → List Variable → List ℕ → ℕ → Option Refusal
 procedure-fault r bs n m vs part q =
@@ -144,11 +144,6 @@ node-fault r vs ds bs k =
     record-fault r (environment vs ds (typed-nodes r vs ds bs k)) k (procedure-of ds k) (node-record bs k)
 
 -- ---- row 17, at node k
-
--- how often a number stands in a list
-abbrev pub times-in : ℕ → List ℕ → ℕ
-times-in k [] = 0
-times-in k (x ∷ xs) = cond (eqb x k) 1 0 + times-in k xs
 
 -- how often node k is named as a child
 abbrev pub times-named : ℕ → List TypedNode → ℕ
@@ -182,8 +177,8 @@ abbrev pub records-fault : Rules → Layout → List ℕ → Option Refusal
 records-fault r l bs =
     or-else (first (variable-fault r (l .procedures) (variable-part l bs)) (l .variables))
     (or-else (first (procedure-fault r bs (l .nodes) (l .procedures) (file-variables l bs) (procedure-part l bs)) (l .procedures))
-      (or-else (first (node-fault r (file-variables l bs) (file-procedures l bs) bs) (l .nodes))
-        (first (name-fault (file-procedures l bs) (file-nodes r l bs)) (l .nodes))))
+    (or-else (first (node-fault r (file-variables l bs) (file-procedures l bs) bs) (l .nodes))
+    (first (name-fault (file-procedures l bs) (file-nodes r l bs)) (l .nodes))))
 
 abbrev pub layout-fault : Rules → List ℕ → Result Layout Refusal → Option Refusal
 layout-fault r bs (Err e) = Some e

@@ -1,27 +1,22 @@
 -- What it is for a program to be well formed, and for a file to be a well-formed and well-typed program's. Assumes nothing.
-use mathlib.Core.Bool.{Bool, true}
+use mathlib.Core.Bool.{true}
 use mathlib.Core.List.{List, [], _∷_}
 use mathlib.Core.Logic.{_⊎_}
 use mathlib.Core.Path.{_≡_}
 use Prim.Native.Nat.{ℕ, suc, _+_, _<_, _≤_}
-use lib.ListN.{getD, length}
-use Rattle.std.specs.Results.{isOk}
-use Rattle.std.specs.declared.option.Option.{Option}
-use Rattle.std.specs.declared.option.Option.the-variants.{Some, None}
-use Rattle.words.specs.declared.types.DataType.{DataType}
+use lib.ListN.{length}
+use Rattle.std.specs.declared.option.Option.the-variants.{None}
 use Rattle.words.specs.declared.types.DataType.the-variants.{Bool as Boolean}
-use Rattle.levels.specs.Rules.{Rules, Lawful}
+use Rattle.levels.specs.Rules.{Rules}
 use Rattle.program.specs.Encode.{encoded}
-use Rattle.program.specs.Program.{Program, children}
+use Rattle.program.specs.Program.{Program, children, times-in}
 use Rattle.program.specs.declared.records.Node.{Node}
-use Rattle.program.specs.declared.records.Node.the-variants.{Constant, Call}
+use Rattle.program.specs.declared.records.Node.the-variants.{Constant}
 use Rattle.program.specs.declared.records.Role.{Role}
 use Rattle.program.specs.declared.records.Role.the-variants.{Global, Input, Local, Parameter}
 use Rattle.program.specs.declared.records.Variable.{Variable}
 use Rattle.program.specs.declared.records.Procedure.{Procedure}
-use Rattle.typing.specs.Faults.{times-in, verdict-of}
-use Rattle.typing.specs.Typing.{Node-is, Variable-is, Procedure-is, Expression, Statement, Well-typed}
-use Rattle.typing.specs.declared.classes.Exits.{Exits}
+use Rattle.typing.specs.Typing.{Node-is, Variable-is, Procedure-is, Well-typed}
 
 -- the owner of a local or a parameter is a procedure
 abbrev pub Owned : Program → Role → Type 0
@@ -95,27 +90,3 @@ pub record Accepted (r : Rules) (bs : List ℕ) : Type 0 where
   pub encodes : bs ≡ encoded program
   pub formed : Well-formed r program
   pub typed : Well-typed r program
-
-abbrev pub Bytes : List ℕ → Type 0
-Bytes bs = (i : ℕ) → getD bs i 0 < 256
-
--- a file of bytes passes every row exactly where it is accepted so
-abbrev pub Decides-acceptance : Rules → Type 0
-Decides-acceptance r = (bs : List ℕ) → Bytes bs → ((isOk (verdict-of r bs) ≡ true) → Accepted r bs) × (Accepted r bs → isOk (verdict-of r bs) ≡ true)
-
--- what the rules make of a node is one thing: its data type, its level and its exits are determined
-pub record Unique (r : Rules) (p : Program) : Type 0 where
-  pub data-type : (q n l m : ℕ) (t u : DataType) → Expression r p q n t l → Expression r p q n u m → t ≡ u
-  pub level : (q n l m : ℕ) (t u : DataType) → Expression r p q n t l → Expression r p q n u m → l ≡ m
-  pub exits : (q n : ℕ) (x y : Exits) → Statement r p q n x → Statement r p q n y → x ≡ y
-
--- the shape of an accepted program: trees, and calls that go down
-pub record Shaped (r : Rules) (p : Program) : Type 0 where
-  pub below : (n m : ℕ) (x : Node) → Node-is p n x → Among m (children x) → m < n
-  pub one-parent : (n o m : ℕ) (x y : Node) → Node-is p n x → Node-is p o y → Among m (children x) → Among m (children y) → n ≡ o
-  pub calls-down : (n q g : ℕ) (f : Option ℕ) → Node-is p n (Call g f) → Belongs p q n → g < q
-  pub levels : (q n l : ℕ) (t : DataType) → Expression r p q n t l → r .is-level l ≡ true
-
--- what acceptance gives, for every lawful kind of levels
-abbrev pub Sound-acceptance : Rules → Type 0
-Sound-acceptance r = Lawful r → (bs : List ℕ) (a : Accepted r bs) → Unique r (a .program) × Shaped r (a .program)

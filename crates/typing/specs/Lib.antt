@@ -6,3 +6,4 @@ pub mod First
 pub mod Faults
 pub mod Typing
 pub mod Formed
+pub mod Acceptance

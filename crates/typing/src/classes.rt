@@ -14,9 +14,14 @@ pub struct Exits {
 // An expression has a data type, unless it is a void call, and a level; a statement has its exits.
 #[derive(Clone, Copy)]
 pub enum Class {
-    Value { data_type: Option<DataType>, level: u32 },
+    Value {
+        data_type: Option<DataType>,
+        level: u32,
+    },
     Argument,
-    Statement { exits: Exits },
+    Statement {
+        exits: Exits,
+    },
 }
 
 // A node that was checked, with the procedure that it belongs to and its class.

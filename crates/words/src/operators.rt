@@ -90,13 +90,15 @@ impl Comparison {
     {
         let x = value_at(data_type, a);
         let y = value_at(data_type, b);
-        u32::from(match self {
-            Comparison::Equal => a == b,
-            Comparison::NotEqual => a != b,
-            Comparison::Less => x < y,
-            Comparison::LessOrEqual => x <= y,
-            Comparison::Greater => y < x,
-            Comparison::GreaterOrEqual => y <= x,
-        })
+        u32::from(
+            match self {
+                Comparison::Equal => a == b,
+                Comparison::NotEqual => a != b,
+                Comparison::Less => x < y,
+                Comparison::LessOrEqual => x <= y,
+                Comparison::Greater => y < x,
+                Comparison::GreaterOrEqual => y <= x,
+            },
+        )
     }
 }
