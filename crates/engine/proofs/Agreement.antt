@@ -158,6 +158,7 @@ module _ (e : Environment) where
 
   mutual
     unfolding begins got pass meets
+
     pub agrees : {n l : ℕ} {x : Node} {s : Shown} {k : Kept} {r : Ending} → Runs e n x s k l r → node-of e n ≡ x → (fs : List Frame) → Reaches l (at n fs s k) fs r
     agrees cut i fs = halt here before-node
     agrees constant i fs = reach (begun _ i)

@@ -152,8 +152,8 @@ module _ (e : Environment) where
     operators n a b o s k =
         by-value (all l (le-refl l) a s k)
         (λ x t j m i h.
-          by-test (decides o x) (λ d. comes (skips h d) (in-ends i))
-          (λ d. by-end (all m (omega sums) b t j) (λ r g w. comes (both h d g) (after-value _ (omega sums) w (λ y s k o′ lt. combined-within n o x y s k (omega sums))))))
+        by-test (decides o x) (λ d. comes (skips h d) (in-ends i))
+        (λ d. by-end (all m (omega sums) b t j) (λ r g w. comes (both h d g) (after-value _ (omega sums) w (λ y s k o′ lt. combined-within n o x y s k (omega sums))))))
         (λ r h q w. comes (stays h q) w)
 
     -- d bounds the steps left
@@ -162,12 +162,12 @@ module _ (e : Environment) where
     loops (suc d) a b m s k few lt =
         by-value (all m few a s k)
         (λ x t j o i h.
-          by-test (holds x)
-          (λ y.
-            by-body (all o (omega sums) b t j)
-            (λ z t′ j′ o′ i′ h′ g. by-coming (loops d a b o′ t′ j′ (omega sums) (omega sums)) (λ r f w. comes (holds-on h y (again h′ g f)) (more (omega sums) w)))
-            (λ r h′ g w. comes (holds-on h y (leaves h′ g)) (more (omega sums) (after-loop w))))
-          (λ y. comes (fails h y) (in-ends i)))
+        by-test (holds x)
+        (λ y.
+        by-body (all o (omega sums) b t j)
+        (λ z t′ j′ o′ i′ h′ g. by-coming (loops d a b o′ t′ j′ (omega sums) (omega sums)) (λ r f w. comes (holds-on h y (again h′ g f)) (more (omega sums) w)))
+        (λ r h′ g w. comes (holds-on h y (leaves h′ g)) (more (omega sums) (after-loop w))))
+        (λ y. comes (fails h y) (in-ends i)))
         (λ r h g w. comes (guard-stays h g) w)
 
     loop-bodies : (a b : ℕ) (s : Shown) (k : Kept) → Comes Loop-bodies (a, b, s, k) l
@@ -213,8 +213,8 @@ module _ (e : Environment) where
     next-step n (If a b) s k =
         by-value (all l (le-refl l) a (tick s) k)
         (λ x t j m i h.
-          by-test (holds x) (λ y. by-end (all m (omega sums) b t j) (λ r g w. some (if h y g) (more (omega sums) w)))
-          (λ y. some (if-not h y) (in-ends (omega sums))))
+        by-test (holds x) (λ y. by-end (all m (omega sums) b t j) (λ r g w. some (if h y g) (more (omega sums) w)))
+        (λ y. some (if-not h y) (in-ends (omega sums))))
         (λ r h q w. some (if-stays h q) (more (omega sums) w))
     next-step n (IfElse a b c) s k =
         by-value (all l (le-refl l) a (tick s) k)

@@ -51,6 +51,7 @@ unlike f t i u = absurd (true≢false (sym t ∙ ap f i ∙ u))
 module _ (e : Environment) where
   mutual
     unfolding After-value After-argument After-end fallen
+
     pub one-ending : {n l : ℕ} {x : Node} {s : Shown} {k : Kept} {r q : Ending} → Runs e n x s k l r → Runs e n x s k l q → r ≡ q
     one-ending cut cut = refl
     one-ending constant constant = refl
