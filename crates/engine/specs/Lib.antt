@@ -1,0 +1,3 @@
+pub mod State
+pub mod Machine
+pub mod Natural
