@@ -54,7 +54,7 @@ module _ (e : Environment) where
   from f (reach g) = reach (f onward g)
   from f (halt g h) = halt (f onward g) h
 
-  over-stays : (l : ℕ) {o : Outcome} {s : Shown} {k : Kept} → To l (done o s k) zero (done o s k)
+  pub over-stays : (l : ℕ) {o : Outcome} {s : Shown} {k : Kept} → To l (done o s k) zero (done o s k)
   unfolding run turn
   over-stays zero = here
   over-stays (suc l) = record { same = over-stays l .same }
