@@ -2,3 +2,4 @@ pub mod Agreement
 pub mod Endings
 pub mod Unique
 pub mod Theorems
+pub mod Cells
