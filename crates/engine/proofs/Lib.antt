@@ -3,3 +3,4 @@ pub mod Endings
 pub mod Unique
 pub mod Theorems
 pub mod Cells
+pub mod Inverted
