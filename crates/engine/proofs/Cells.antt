@@ -105,7 +105,7 @@ module _ (p : Program) where
           let i′ : Variable-is p v y = subst (λ n. Variable-is p n y) z i in
           let lt : v < length (settling l x k .cells) = omega (arith, at-below no-variable (p .variables) v y i′, j .there) in
           subst (λ n. Fits (y .level) (getD (set (settling l x k .cells) v (settled l x)) n (Plain 0))) (sym z)
-            (subst (λ z. Fits (y .level) z) (sym (getD-set-same (settling l x k .cells) v (settled l x) (Plain 0) lt)) (g y i′))
+          (subst (λ z. Fits (y .level) z) (sym (getD-set-same (settling l x k .cells) v (settled l x) (Plain 0) lt)) (g y i′))
       by u y i false e j =
           subst (λ z. Fits (y .level) z) (sym (getD-set-other (settling l x k .cells) v u (settled l x) (Plain 0) (λ z. absurd (true≢false (sym (eq-eqb u v z) ∙ e))))) (j .fits u y i)
 
@@ -123,6 +123,7 @@ module _ (p : Program) where
     where
       same : (y : Variable) → Variable-is p i y → v ≡ y
       same y n = sym (drop-next no-variable i (p .variables) h .0) ∙ at-item no-variable (p .variables) i y n
+
       by : (t : Bool) → Fitting p (cond t (stored i (v .level) (Plain 0) k) k)
       by true = stored-fits i (v .level) (Plain 0) (λ y n. subst (λ z. Fits (z .level) (settled (v .level) (Plain 0))) (same y n) (plain-takes (v .level) 0)) f
       by false = f
@@ -133,6 +134,10 @@ module _ (p : Program) where
 
     pub level-is : (v : ℕ) (y : Variable) → Variable-is p v y → level-at tables v ≡ y .level
     level-is v y h = ap variable-level h
+
+    -- a variable is assigned a figure that it takes
+    pub assigned-fits : {k : Kept} (v : ℕ) (x : Value ℕ) → ((y : Variable) → Variable-is p v y → Takes (y .level) x) → Fitting p k → Fitting p (stored v (level-at tables v) x k)
+    assigned-fits v x g f = stored-fits v (level-at tables v) x (λ y h. subst (λ l. Fits (y .level) (settled l x)) (sym (level-is v y h)) (g y h)) f
 
     bound-by : (v c : ℕ) (xs : List (Value ℕ)) (ds : List Variable) (k : Kept) → drop v (p .variables) ≡ ds → Passable xs (take c ds) → Fitting p k → Fitting p (bound tables v xs k)
     unfolding bound

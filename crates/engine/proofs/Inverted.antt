@@ -195,9 +195,42 @@ module _ (r : Rules) (p : Program) (ns : List TypedNode) where
     stated-as {q = q} {n = n} {x = x} (do-while h d f g) = turned n _ (λ y. Stated-as q y x) h (_, (_, _, d), f, refl)
     stated-as {q = q} {n = n} {x = x} (return {l = l} {d = k} h v s d f) =
         turned n _ (λ y. Stated-as q y x) h
-          (_, _, ap (λ (k : Procedure). k .result) (procedure-told q k v) ∙ s, d, subst (λ (k : Procedure). r .flows l (k .level) ≡ true) (sym (procedure-told q k v)) f, refl)
+        (_, _, ap (λ (k : Procedure). k .result) (procedure-told q k v) ∙ s, d, subst (λ (k : Procedure). r .flows l (k .level) ≡ true) (sym (procedure-told q k v)) f, refl)
     stated-as {q = q} {n = n} {x = x} (return-void {d = k} h v s) = turned n _ (λ y. Stated-as q y x) h (ap (λ (k : Procedure). k .result) (procedure-told q k v) ∙ s, refl)
     stated-as {q = q} {n = n} {x = x} (break h) = turned n _ (λ y. Stated-as q y x) h refl
     stated-as {q = q} {n = n} {x = x} (continue h) = turned n _ (λ y. Stated-as q y x) h refl
     stated-as {q = q} {n = n} {x = x} (definition h v s) = turned n _ (λ y. Stated-as q y x) h refl
     stated-as {q = q} {n = n} {x = x} (output h d) = turned n _ (λ y. Stated-as q y x) h ((_, _, d), refl)
+
+    pub statement-node : {q n : ℕ} {x : Exits} → Statement r p q n x → Node-is p n (node-of (tables p ns) n)
+    statement-node {n = n} (expression h d) = turned n _ (Node-is p n) h h
+    statement-node {n = n} (procedure-call h d) = turned n _ (Node-is p n) h h
+    statement-node {n = n} (sequence h d f g) = turned n _ (Node-is p n) h h
+    statement-node {n = n} (if h d f) = turned n _ (Node-is p n) h h
+    statement-node {n = n} (if-else h d f g) = turned n _ (Node-is p n) h h
+    statement-node {n = n} (while h d f g) = turned n _ (Node-is p n) h h
+    statement-node {n = n} (do-while h d f g) = turned n _ (Node-is p n) h h
+    statement-node {n = n} (return h v s d f) = turned n _ (Node-is p n) h h
+    statement-node {n = n} (return-void h v s) = turned n _ (Node-is p n) h h
+    statement-node {n = n} (break h) = turned n _ (Node-is p n) h h
+    statement-node {n = n} (continue h) = turned n _ (Node-is p n) h h
+    statement-node {n = n} (definition h v s) = turned n _ (Node-is p n) h h
+    statement-node {n = n} (output h d) = turned n _ (Node-is p n) h h
+
+    -- the first of the arguments that fit parameters, and the others
+    pub record First-argument (q n : ℕ) (vs : List Variable-record) : Type 0 where
+      pub parameter : Variable-record
+      pub others : List Variable-record
+      pub level : ℕ
+      pub next : Option ℕ
+      pub whole : vs ≡ parameter ∷ others
+      pub argued : Argued-as q (node-of (tables p ns) n) level next
+      pub flows : r .flows level (parameter .level) ≡ true
+      pub rest : Arguments r p q next others
+
+    pub first-argument : {q n : ℕ} {vs : List Variable-record} → Arguments r p q (Some n) vs → First-argument q n vs
+    first-argument {n = n} (argument {l = l} {next = next} {x = x} {xs = xs} h d f g) =
+        record { parameter = x; others = xs; level = l; next = next; whole = refl; argued = argued-as n next h d; flows = f; rest = g }
+
+    pub no-argument : {q : ℕ} {vs : List Variable-record} → Arguments r p q None vs → vs ≡ []
+    no-argument none = refl

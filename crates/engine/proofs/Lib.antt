@@ -4,3 +4,4 @@ pub mod Unique
 pub mod Theorems
 pub mod Cells
 pub mod Inverted
+pub mod Fitting

@@ -9,7 +9,6 @@ use Rattle.std.specs.declared.option.Option.the-variants.{Some, None}
 use Rattle.words.specs.declared.types.DataType.{DataType}
 use Rattle.program.specs.Program.{Program}
 use Rattle.program.specs.declared.records.Variable.{Variable}
-use Rattle.program.specs.declared.records.Procedure.{Procedure}
 use Rattle.typing.specs.Typing.{Variable-is}
 use Rattle.typing.specs.declared.classes.Exits.{Exits}
 use Rattle.engine.specs.State.{Kept, cell}
@@ -68,12 +67,12 @@ module _ (p : Program) where
   Call-ending t l (ends Continues s k m) = ⊥
   Call-ending t l (stops o s k) = Fitting p k
 
-  -- a statement of procedure d ends in one of its ways
-  abbrev pub Statement-ending : Procedure → Exits → Ending → Type 0
-  Statement-ending d x (ends (Gives y) s k m) = ⊥
-  Statement-ending d x (ends (Argues y next) s k m) = ⊥
-  Statement-ending d x (ends Falls s k m) = (x .falls ≡ true) × Fitting p k
-  Statement-ending d x (ends (Returns y) s k m) = (x .returns ≡ true) × Returned (d .result) (d .level) y × Fitting p k
-  Statement-ending d x (ends Breaks s k m) = (x .breaks ≡ true) × Fitting p k
-  Statement-ending d x (ends Continues s k m) = (x .continues ≡ true) × Fitting p k
-  Statement-ending d x (stops o s k) = Fitting p k
+  -- a statement of a procedure with result t of level l ends in one of its ways
+  abbrev pub Statement-ending : Option DataType → ℕ → Exits → Ending → Type 0
+  Statement-ending t l x (ends (Gives y) s k m) = ⊥
+  Statement-ending t l x (ends (Argues y next) s k m) = ⊥
+  Statement-ending t l x (ends Falls s k m) = (x .falls ≡ true) × Fitting p k
+  Statement-ending t l x (ends (Returns y) s k m) = (x .returns ≡ true) × Returned t l y × Fitting p k
+  Statement-ending t l x (ends Breaks s k m) = (x .breaks ≡ true) × Fitting p k
+  Statement-ending t l x (ends Continues s k m) = (x .continues ≡ true) × Fitting p k
+  Statement-ending t l x (stops o s k) = Fitting p k
