@@ -5,3 +5,4 @@ pub mod Theorems
 pub mod Cells
 pub mod Inverted
 pub mod Fitting
+pub mod Described

@@ -1,18 +1,26 @@
 -- In a well-typed program figures of level 0 are plain and all others held. Assumes nothing.
 use mathlib.Core.Bool.{true, false}
+use mathlib.Core.List.{List}
 use mathlib.Core.Path.{_≡_}
 use Prim.Native.Nat.{ℕ, _≤_}
 use lib.Dec.{eqb}
-use lib.ListN.{length}
+use lib.ListN.{length, getD}
 use Rattle.std.specs.declared.option.Option.{Option}
 use Rattle.std.specs.declared.option.Option.the-variants.{Some, None}
 use Rattle.words.specs.declared.types.DataType.{DataType}
-use Rattle.program.specs.Program.{Program}
+use Rattle.levels.specs.Rules.{Rules}
+use Rattle.program.specs.Program.{Program, no-node}
 use Rattle.program.specs.declared.records.Variable.{Variable}
-use Rattle.typing.specs.Typing.{Variable-is}
+use Rattle.program.specs.declared.records.Procedure.{Procedure}
+use Rattle.typing.specs.Environment.{Environment, procedure-of}
+use Rattle.typing.specs.Faults.{environment, typed-node}
+use Rattle.typing.specs.First.{table}
+use Rattle.typing.specs.Formed.{Well-formed, Belongs}
+use Rattle.typing.specs.Typing.{Variable-is, Procedure-is, Expression, Statement, Well-typed}
 use Rattle.typing.specs.declared.classes.Exits.{Exits}
-use Rattle.engine.specs.State.{Kept, cell}
-use Rattle.engine.specs.Natural.{Ending, ends, stops}
+use Rattle.typing.specs.declared.classes.TypedNode.{TypedNode}
+use Rattle.engine.specs.State.{Shown, Kept, cell, node-of}
+use Rattle.engine.specs.Natural.{Ending, ends, stops, Runs}
 use Rattle.engine.specs.declared.values.Value.{Value}
 use Rattle.engine.specs.declared.values.Value.the-variants.{Plain, Held}
 use Rattle.engine.specs.declared.values.Signal.{Signal}
@@ -76,3 +84,19 @@ module _ (p : Program) where
   Statement-ending t l x (ends Breaks s k m) = (x .breaks ≡ true) × Fitting p k
   Statement-ending t l x (ends Continues s k m) = (x .continues ≡ true) × Fitting p k
   Statement-ending t l x (stops o s k) = Fitting p k
+
+-- the typed nodes of a program
+abbrev pub nodes-of : Rules → Program → List TypedNode
+nodes-of r p =
+    table (λ ns n. typed-node r (environment (p .variables) (p .procedures) ns) (procedure-of (p .procedures) n) (getD (p .nodes) n no-node)) (length (p .nodes))
+
+abbrev pub environment-of : Rules → Program → Environment
+environment-of r p = environment (p .variables) (p .procedures) (nodes-of r p)
+
+-- in a well-typed program: from cells that fit, an expression gives a figure that fits its level and a statement ends as its exits say, and the cells fit again
+pub record Figures-fit (r : Rules) (p : Program) : Type 0 where
+  pub expressions : (q n l m : ℕ) (t : DataType) (s : Shown) (k : Kept) (a : Ending) → Expression r p q n t l → Fitting p k → Runs (environment-of r p) n (node-of (environment-of r p) n) s k m a → Value-ending p l a
+  pub statements : (q n m : ℕ) (d : Procedure) (x : Exits) (s : Shown) (k : Kept) (a : Ending) → Procedure-is p q d → Statement r p q n x → Belongs p q n → Fitting p k → Runs (environment-of r p) n (node-of (environment-of r p) n) s k m a → Statement-ending p (d .result) (d .level) x a
+
+abbrev pub Levels-kept : Rules → Type 0
+Levels-kept r = (p : Program) → Well-formed r p → Well-typed r p → Figures-fit r p
