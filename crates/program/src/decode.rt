@@ -1,6 +1,7 @@
 // What the fields of a record stand for. The numbers of kinds, uses and result types are known here alone.
 ghost use mathlib.Core.Path.{_≡_};
 ghost use Rattle.program.specs.Decode.{node-decoded, variable-decoded, procedure-decoded, constant-decoded, arithmetic-decoded, comparison-decoded, only-if, lone, pair, triple, bare, absent-or, role-decoded, result-decoded, is-statement-kind};
+ghost use Rattle.program.specs.declared.records.Node.the-variants.{And, Or, Choice, Assignment, Call, Argument, Sequence, If, IfElse, While, DoWhile};
 ghost use Rattle.std.specs.declared.option.Option.the-variants.{Some};
 use crate::fields::NodeFields;
 use crate::fields::ProcedureFields;
@@ -99,6 +100,140 @@ fn comparison(f: NodeFields) -> Option<Node>
     )
 }
 
+fn and(f: NodeFields) -> Option<Node>
+    ensures { λ r. ⌜ r ≡ only-if (pair f) (Some (And (f .a) (f .b))) ⌝ }
+{
+    node_if(
+        uses_two(f),
+        Node::And {
+            left: f.a,
+            right: f.b,
+        },
+    )
+}
+
+fn or(f: NodeFields) -> Option<Node>
+    ensures { λ r. ⌜ r ≡ only-if (pair f) (Some (Or (f .a) (f .b))) ⌝ }
+{
+    node_if(
+        uses_two(f),
+        Node::Or {
+            left: f.a,
+            right: f.b,
+        },
+    )
+}
+
+fn choice(f: NodeFields) -> Option<Node>
+    ensures { λ r. ⌜ r ≡ only-if (triple f) (Some (Choice (f .a) (f .b) (f .c))) ⌝ }
+{
+    node_if(
+        uses_three(f),
+        Node::Choice {
+            condition: f.a,
+            chosen: f.b,
+            otherwise: f.c,
+        },
+    )
+}
+
+fn assignment(f: NodeFields) -> Option<Node>
+    ensures { λ r. ⌜ r ≡ only-if (pair f) (Some (Assignment (f .a) (f .b))) ⌝ }
+{
+    node_if(
+        uses_two(f),
+        Node::Assignment {
+            variable: f.a,
+            value: f.b,
+        },
+    )
+}
+
+fn call(f: NodeFields) -> Option<Node>
+    ensures { λ r. ⌜ r ≡ only-if (pair f) (Some (Call (f .a) (absent-or (f .b)))) ⌝ }
+{
+    node_if(
+        uses_two(f),
+        Node::Call {
+            procedure: f.a,
+            first: optional(f.b),
+        },
+    )
+}
+
+fn argument(f: NodeFields) -> Option<Node>
+    ensures { λ r. ⌜ r ≡ only-if (pair f) (Some (Argument (f .a) (absent-or (f .b)))) ⌝ }
+{
+    node_if(
+        uses_two(f),
+        Node::Argument {
+            value: f.a,
+            next: optional(f.b),
+        },
+    )
+}
+
+fn sequence(f: NodeFields) -> Option<Node>
+    ensures { λ r. ⌜ r ≡ only-if (pair f) (Some (Sequence (f .a) (f .b))) ⌝ }
+{
+    node_if(
+        uses_two(f),
+        Node::Sequence {
+            first: f.a,
+            second: f.b,
+        },
+    )
+}
+
+fn if_then(f: NodeFields) -> Option<Node>
+    ensures { λ r. ⌜ r ≡ only-if (pair f) (Some (If (f .a) (f .b))) ⌝ }
+{
+    node_if(
+        uses_two(f),
+        Node::If {
+            condition: f.a,
+            branch: f.b,
+        },
+    )
+}
+
+fn if_else(f: NodeFields) -> Option<Node>
+    ensures { λ r. ⌜ r ≡ only-if (triple f) (Some (IfElse (f .a) (f .b) (f .c))) ⌝ }
+{
+    node_if(
+        uses_three(f),
+        Node::IfElse {
+            condition: f.a,
+            branch: f.b,
+            otherwise: f.c,
+        },
+    )
+}
+
+fn while_loop(f: NodeFields) -> Option<Node>
+    ensures { λ r. ⌜ r ≡ only-if (pair f) (Some (While (f .a) (f .b))) ⌝ }
+{
+    node_if(
+        uses_two(f),
+        Node::While {
+            condition: f.a,
+            body: f.b,
+        },
+    )
+}
+
+fn do_while(f: NodeFields) -> Option<Node>
+    ensures { λ r. ⌜ r ≡ only-if (pair f) (Some (DoWhile (f .a) (f .b))) ⌝ }
+{
+    node_if(
+        uses_two(f),
+        Node::DoWhile {
+            condition: f.a,
+            body: f.b,
+        },
+    )
+}
+
 // The node of a record, or none where its kind, sort, word or an unused field is bad.
 pub fn decode_node(f: NodeFields) -> Option<Node>
     ensures { λ r. ⌜ r ≡ node-decoded f ⌝ }
@@ -110,87 +245,19 @@ pub fn decode_node(f: NodeFields) -> Option<Node>
         4 => node_if(uses_one(f), Node::Not { operand: f.a }),
         5 => arithmetic(f),
         6 => comparison(f),
-        7 => node_if(
-            uses_two(f),
-            Node::And {
-                left: f.a,
-                right: f.b,
-            },
-        ),
-        8 => node_if(
-            uses_two(f),
-            Node::Or {
-                left: f.a,
-                right: f.b,
-            },
-        ),
-        9 => node_if(
-            uses_three(f),
-            Node::Choice {
-                condition: f.a,
-                chosen: f.b,
-                otherwise: f.c,
-            },
-        ),
-        10 => node_if(
-            uses_two(f),
-            Node::Assignment {
-                variable: f.a,
-                value: f.b,
-            },
-        ),
-        11 => node_if(
-            uses_two(f),
-            Node::Call {
-                procedure: f.a,
-                first: optional(f.b),
-            },
-        ),
-        12 => node_if(
-            uses_two(f),
-            Node::Argument {
-                value: f.a,
-                next: optional(f.b),
-            },
-        ),
+        7 => and(f),
+        8 => or(f),
+        9 => choice(f),
+        10 => assignment(f),
+        11 => call(f),
+        12 => argument(f),
         13 => node_if(uses_one(f), Node::Release { operand: f.a }),
         20 => node_if(uses_one(f), Node::Expression { value: f.a }),
-        21 => node_if(
-            uses_two(f),
-            Node::Sequence {
-                first: f.a,
-                second: f.b,
-            },
-        ),
-        22 => node_if(
-            uses_two(f),
-            Node::If {
-                condition: f.a,
-                branch: f.b,
-            },
-        ),
-        23 => node_if(
-            uses_three(f),
-            Node::IfElse {
-                condition: f.a,
-                branch: f.b,
-                otherwise: f.c,
-            },
-        ),
-        24 => node_if(
-            uses_two(f),
-            Node::While {
-                condition: f.a,
-                body: f.b,
-            },
-        ),
-        25 => node_if(
-            uses_two(f),
-            Node::DoWhile {
-                condition: f.a,
-                body: f.b,
-            },
-        ),
+        21 => sequence(f),
+        22 => if_then(f),
+        23 => if_else(f),
+        24 => while_loop(f),
+        25 => do_while(f),
         27 => node_if(uses_one(f), Node::Return { value: f.a }),
         28 => node_if(uses_none(f), Node::ReturnVoid),
         29 => node_if(uses_none(f), Node::Break),
