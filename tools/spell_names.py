@@ -13,7 +13,8 @@ import os
 import re
 import sys
 
-DECLARED = re.compile(r"\s*(?:(?:pub|abbrev|unfoldable|opaque|mutual)\s+)*(?:(?:data|record)\s+)?([A-Za-z_][\w'\-]*)(?:\s+[A-Za-z_][\w'\-]*)*\s+[({:]")
+DECLARED = re.compile(r"\s*(?:(?:pub|abbrev|unfoldable|opaque|mutual)\s+)*(?:(?:data|record)\s+([A-Za-z_][\w'\-]*)\s+[({:]|([A-Za-z_][\w'\-]*)\s+:\s)")
+IMPORTED = re.compile(r"\buse ([^\s{]+)\.\{([^}]*)\}")
 MADE = re.compile(r"(?m)^\s*(?:pub |abbrev |unfoldable )*([A-Za-z][\w'\-]*) : (?:goal|given|need)\.")
 ALIAS = re.compile(r" as ([A-Za-z][\w']*(?:-[\w'>]+)+)")
 BOUND = re.compile(r"\blet ([A-Za-z][\w']*(?:-[\w'>]+)+)")
@@ -41,16 +42,20 @@ def spelled(name):
 
 
 def renamings(texts):
-    declared, made, other = set(), set(), set()
+    declared, made, other, taken = set(), set(), set(), set()
+    crates = set(os.listdir("crates"))
     for path, text in texts.items():
         made.update(MADE.findall(text))
         other.update(ALIAS.findall(text) + BOUND.findall(text))
+        for module, names in IMPORTED.findall(text):
+            if module.split(".")[1] not in crates:
+                taken.update(n.split(" as ")[0].strip() for n in names.split(","))
         if path.endswith(".antt"):
             for line in text.split("\n"):
                 found = DECLARED.match(line)
                 if found and not line.lstrip().startswith("--"):
-                    declared.add(found.group(1))
-    ours = {n for n in (declared | other) - made if re.fullmatch(r"[A-Za-z][\w']*(?:-[\w']+)+", n)}
+                    declared.add(found.group(1) or found.group(2))
+    ours = {n for n in (declared | other) - made - taken if re.fullmatch(r"[A-Za-z][\w']*(?:-[\w']+)+", n)}
     to = {n: spelled(n) for n in ours}
     count = collections.Counter(to.values())
     together = sorted(n for n in ours if count[to[n]] > 1 or to[n] in declared)

@@ -2,7 +2,7 @@
 use Rattle.std.proofs.Common.{◌≡◌, ℕ, zero, suc, ◌+◌, ◌<◌, Bool, true, false, cond, ◌||◌, eqb, ltb, ◌≢◌, List, [], ◌∷◌, ◌++◌, length, get_or, take, set, replicate, fold, sym, refl, ap, ◌∙◌, subst, add-zero, add_assoc, zero-add, add-one, length-set, get_or-set_other, get_or-set_same, rules}
 use lib.ListN.{length-replicate, get_or-replicate, replicate-append-replicate}
 use Rattle.std.proofs.lemmas.List.Sums.{fold_more}
-use Rattle.std.proofs.lemmas.Bool.{eqb-true, eqb-false, lt_ltb}
+use Rattle.std.proofs.lemmas.Bool.{eqb-true, eqb-false, lt-ltb}
 use Rattle.program.specs.Program.{children, times_in}
 use Rattle.program.specs.declared.records.Procedure.{Procedure}
 use Rattle.program.specs.declared.refusal.Refusal.TheVariants.{Naming as BadNaming}
@@ -47,7 +47,7 @@ marked_other ms j k ne =
 marked_same : (ms : List Naming) (k : ℕ) → k < length ms → get_or (marked ms k) k Never ≡ more (get_or ms k Never)
 unfolding marked
 marked_same ms k lt =
-    ap (λ (b : Bool). get_or (cond b (set ms k (more (get_or ms k Never))) ms) k Never) (lt_ltb k (length ms) lt)
+    ap (λ (b : Bool). get_or (cond b (set ms k (more (get_or ms k Never))) ms) k Never) (lt-ltb k (length ms) lt)
     ∙ get_or-set_same ms k _ Never lt
 
 marked_at : (ms : List Naming) (j k t : ℕ) (b : Bool) → eqb j k ≡ b → k < length ms → get_or ms k Never ≡ tally t → get_or (marked ms j) k Never ≡ tally (t + cond b 1 0)

@@ -1,5 +1,7 @@
 // The static check of a program file, into tables whose memory is reserved once.
 // An internal crate: hosts use `script` or the program `pool`.
+#![tactic(auto)]
+
 mod arguments;
 mod bodies;
 mod calls;

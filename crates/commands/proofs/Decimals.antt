@@ -1,7 +1,7 @@
 -- Reading a number digit by digit. Assumes nothing.
 use Rattle.std.proofs.Common.{◌≡◌, ℕ, ◌+◌, ◌^◌, ◌<◌, ◌≤◌, Bool, true, false, cond, ◌&&◌, ltb, List, [], ◌∷◌, length, get_or, drop, Some, None, Option, sym, refl, ap, ◌∙◌, arith}
 use Rattle.std.proofs.lemmas.List.{at_drop_more, at_drop_all}
-use Rattle.std.proofs.lemmas.Bool.{ltb-false, le-ltb, lt_ltb, and_right}
+use Rattle.std.proofs.lemmas.Bool.{ltb-false, le-ltb, lt-ltb, and_right}
 use Rattle.std.specs.Char.{is_ascii_digit}
 use Rattle.std.specs.Str.{all_ascii_digits}
 use Rattle.commands.specs.Numbers.{appended, with_digit, number_after, word_after}
@@ -34,4 +34,4 @@ digit_read n bs i o l e =
     at_drop_more (word_after n) bs i 0 l ∙ step n (get_or bs i 0) (drop (i + 1) bs) ∙ ap (λ p. go_on p (drop (i + 1) bs)) (sym e)
 
 pub all_read : (n : ℕ) (bs : List ℕ) (i : ℕ) → length bs ≤ i → n < 2 ^ 32 → word_after n (drop i bs) ≡ Some n
-all_read n bs i l small = at_drop_all (word_after n) bs i l ∙ ap (λ t. cond t (Some n) None) (lt_ltb n (2 ^ 32) small)
+all_read n bs i l small = at_drop_all (word_after n) bs i l ∙ ap (λ t. cond t (Some n) None) (lt-ltb n (2 ^ 32) small)

@@ -1,4 +1,6 @@
 // Session scripts as text: their lines, and the commands that these hold.
+#![tactic(auto)]
+
 mod arguments;
 mod cutting;
 mod fields;

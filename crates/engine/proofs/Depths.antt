@@ -1,6 +1,6 @@
 -- A node begins only nodes below it, so that number and depth together do not grow.
 use Rattle.std.proofs.Common.{◌≡◌, ℕ, suc, ◌+◌, true, ◌&&◌, eqb, ltb, length, Some, None, sym, refl, subst, arith}
-use Rattle.std.proofs.lemmas.Bool.{and_parts, and_from, ltb-true, lt_ltb, eqb-true}
+use Rattle.std.proofs.lemmas.Bool.{and_parts, and_from, ltb-true, lt-ltb, eqb-true}
 use Rattle.holding.specs.declared.shares.Shares.{Shares}
 use Rattle.typing.specs.Environment.{Environment}
 use Rattle.semantics.specs.declared.values.Signal.{Signal}
@@ -11,13 +11,13 @@ use Rattle.engine.specs.declared.frames.Move.TheVariants.{Begin, Under, Over, Wr
 
 module _ (e : Environment) where
   below_depth : (m n depth : ℕ) → ltb m n ≡ true → depth_fits e n depth ≡ true → depth_fits e (suc m) depth ≡ true
-  below_depth m n depth h d = lt_ltb (suc m + depth) (length e.nodes) (omega (arith, ltb-true m n h, ltb-true (n + depth) (length e.nodes) d))
+  below_depth m n depth h d = lt-ltb (suc m + depth) (length e.nodes) (omega (arith, ltb-true m n h, ltb-true (n + depth) (length e.nodes) d))
 
   less_depth : (m n depth : ℕ) → ltb m n ≡ true → depth_fits e n depth ≡ true → depth_fits e m depth ≡ true
-  less_depth m n depth h d = lt_ltb (m + depth) (length e.nodes) (omega (arith, ltb-true m n h, ltb-true (n + depth) (length e.nodes) d))
+  less_depth m n depth h d = lt-ltb (m + depth) (length e.nodes) (omega (arith, ltb-true m n h, ltb-true (n + depth) (length e.nodes) d))
 
   deeper : (m n depth : ℕ) → ltb m n ≡ true → depth_fits e n depth ≡ true → depth_fits e m (suc depth) ≡ true
-  deeper m n depth h d = lt_ltb (m + suc depth) (length e.nodes) (omega (arith, ltb-true m n h, ltb-true (n + depth) (length e.nodes) d))
+  deeper m n depth h d = lt-ltb (m + suc depth) (length e.nodes) (omega (arith, ltb-true m n h, ltb-true (n + depth) (length e.nodes) d))
 
   signal_depth : (n depth : ℕ) (z : Signal Shares) → signal_below n z ≡ true → depth_fits e n depth ≡ true → signal_fits e depth z ≡ true
   signal_depth n depth (Gives x) h d = refl

@@ -1,7 +1,7 @@
 -- What a machine is made of: tables that are ready, and cells that are 0.
 use Rattle.std.proofs.Common.{◌≡◌, ℕ, suc, ◌+◌, ◌-◌, ◌<◌, ◌≤◌, true, List, [], reverse, length, get_or, drop, IfOk, Ok, Err, Result, sym, ap, ◌∙◌, subst, add-one, arith, drop-cons}
 use Rattle.std.proofs.lemmas.List.{drop_all}
-use Rattle.std.proofs.lemmas.Bool.{lt_ltb}
+use Rattle.std.proofs.lemmas.Bool.{lt-ltb}
 use Rattle.holding.specs.declared.shares.Counts.{Counts}
 use Rattle.holding.specs.declared.shares.Shares.{Shares}
 use Rattle.levels.specs.Rules.{Rules}
@@ -72,7 +72,7 @@ pub nothing_fits : (e : Environment) (items : List Entry) (n : ℕ) → items �
 unfolding stack_fits
 nothing_fits e items n h lt = (
   ap (λ (es : List Entry). stack_fits e (reverse es)) h,
-  ap (λ (es : List Entry). depth_fits e n (length (reverse es))) h ∙ lt_ltb (n + 0) (length e.nodes) (omega (arith, lt)),
+  ap (λ (es : List Entry). depth_fits e n (length (reverse es))) h ∙ lt-ltb (n + 0) (length e.nodes) (omega (arith, lt)),
 )
 
 pub opened_is : (stands : Shares → ℕ) (e : Environment) (c : Counts) (n : ℕ) (items : List Entry) (lines : List Line) (k : Kept) → n ≡ (procedure e (main e)).body → items ≡ [] → lines ≡ [] → k ≡ zeroed 0 e.variables (unset c) → model.at n (frames_of stands [] (reverse items)) (record { lines = lines; spent = 0 }) k ≡ opened e c

@@ -1,8 +1,8 @@
 -- The figures that were passed to a call, and the parameters that they become.
-use Rattle.std.proofs.Common.{◌≡◌, ℕ, suc, ◌+◌, ◌<◌, true, false, ◌&&◌, ltb, List, [], ◌∷◌, ◌++◌, length, Some, None, sym, refl, ap, ◌∙◌, add-zero, arith, length_append}
+use Rattle.std.proofs.Common.{◌≡◌, ℕ, suc, ◌+◌, ◌<◌, true, false, ◌&&◌, ltb, List, [], ◌∷◌, ◌++◌, length, Some, None, sym, refl, ap, ◌∙◌, add-zero, arith, length-append}
 use mathlib.Core.Bool.{false≢true}
 use Rattle.std.proofs.lemmas.List.{append-nil, append_assoc}
-use Rattle.std.proofs.lemmas.Bool.{and_parts, and_from, ltb-true, lt_ltb}
+use Rattle.std.proofs.lemmas.Bool.{and_parts, and_from, ltb-true, lt-ltb}
 use Rattle.holding.specs.declared.shares.Shares.{Shares}
 use Rattle.typing.specs.Environment.{Environment}
 use Rattle.semantics.specs.Machine as model
@@ -51,7 +51,7 @@ module _ (e : Environment) where
   unfolding stack_fits
   running_fits n m es b d h = (
     and_from (true && depth_fits e n (length es)) (stack_fits e es) d h,
-    lt_ltb (m + suc (length es)) (length e.nodes) (omega (arith, ltb-true m n b, ltb-true (n + length es) (length e.nodes) d)),
+    lt-ltb (m + suc (length es)) (length e.nodes) (omega (arith, ltb-true m n b, ltb-true (n + length es) (length e.nodes) d)),
   )
 
   -- the procedure of the call may begin
@@ -73,8 +73,8 @@ module _ (e : Environment) where
   unfolding stack_fits
   passes_fits x m es i d h =
       let lt = ltb-true (suc m + length es) (length e.nodes) d in (
-        and_from (in_call es && depth_fits e 0 (length es)) (stack_fits e es) (and_from (in_call es) (depth_fits e 0 (length es)) i (lt_ltb (0 + length es) (length e.nodes) (omega (arith, lt)))) h,
-        lt_ltb (m + suc (length es)) (length e.nodes) (omega (arith, lt)),
+        and_from (in_call es && depth_fits e 0 (length es)) (stack_fits e es) (and_from (in_call es) (depth_fits e 0 (length es)) i (lt-ltb (0 + length es) (length e.nodes) (omega (arith, lt)))) h,
+        lt-ltb (m + suc (length es)) (length e.nodes) (omega (arith, lt)),
       )
 
 pub passed_in_call : (x : Value Shares) (es fs : List Entry) → es ≡ Passed x ∷ fs → in_call es ≡ true → in_call fs ≡ true
@@ -130,7 +130,7 @@ module _ (stands : Shares → ℕ) where
       let xs = passed stands fs in
       let more = more_figures x es fs h in
       let at : q ≡ v + length xs = p ∙ ap (λ (z : Environment). (procedure z g).first_parameter + length xs) t in (
-        omega (arith, at, ap length more, length_append xs (value_of stands x ∷ [])),
+        omega (arith, at, ap length more, length-append xs (value_of stands x ∷ [])),
         m
             ∙ ap (λ (z : Environment). stored q (level_at z q) (value_of stands x) j) u
             ∙ ap (λ (z : ℕ). stored z (level_at e z) (value_of stands x) j) at

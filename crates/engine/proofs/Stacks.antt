@@ -1,7 +1,7 @@
 -- The entries of a stack, one more or one less.
-use Rattle.std.proofs.Common.{◌≡◌, ℕ, suc, ◌+◌, ◌-◌, ◌<◌, ◌≤◌, true, ◌&&◌, ltb, List, [], ◌∷◌, ◌++◌, reverse, length, get_or, take, is_some, Some, None, Option, sym, refl, ap, ◌∙◌, arith, length_append, take_all, take-suc}
+use Rattle.std.proofs.Common.{◌≡◌, ℕ, suc, ◌+◌, ◌-◌, ◌<◌, ◌≤◌, true, ◌&&◌, ltb, List, [], ◌∷◌, ◌++◌, reverse, length, get_or, take, is_some, Some, None, Option, sym, refl, ap, ◌∙◌, arith, length-append, take_all, take-suc}
 use Rattle.std.proofs.lemmas.List.{nil_from_length, reverse-append}
-use Rattle.std.proofs.lemmas.Bool.{and_parts, ltb-true, ltb-false, lt_ltb}
+use Rattle.std.proofs.lemmas.Bool.{and_parts, ltb-true, ltb-false, lt-ltb}
 use Rattle.std.specs.Option.{option_to_list}
 use Rattle.typing.specs.Environment.{Environment}
 use Rattle.engine.specs.Shape.{number, is_of_call, in_call, frame_below, depth_fits, stack_fits, next_fits}
@@ -34,7 +34,7 @@ no_top xs e = sym (ap (λ (ys : List Entry). top_of (reverse ys)) (nil_from_leng
 pub popped : (xs ys : List Entry) (o : Option Entry) → xs ≡ ys ++ option_to_list o → is_some o ≡ ltb 0 (length xs) → Popped o (reverse xs) (reverse ys)
 popped xs ys None h t =
     let z : length xs ≡ 0 = omega (arith, ltb-false 0 (length xs) (sym t)) in
-    let y : length ys ≡ 0 = omega (arith, z, ap length h, length_append ys []) in
+    let y : length ys ≡ 0 = omega (arith, z, ap length h, length-append ys []) in
     (ap reverse (nil_from_length xs z), ap reverse (nil_from_length ys y))
 popped xs ys (Some x) h t = reversed ys xs x h
 
@@ -49,8 +49,8 @@ fits_popped e (Some (Passed x)) es fs h f =
 pub next_popped : (e : Environment) (n : Next) (o : Option Entry) (es fs : List Entry) → Popped o es fs → next_fits e (length es) n ≡ true → next_fits e (length fs) n ≡ true
 next_popped e (Begin n) None es fs (h, k) f =
     let le : length fs ≤ length es = omega (arith, ap length k) in
-    lt_ltb (n + length fs) (length e.nodes) (omega (arith, le, ltb-true (n + length es) (length e.nodes) f))
+    lt-ltb (n + length fs) (length e.nodes) (omega (arith, le, ltb-true (n + length es) (length e.nodes) f))
 next_popped e (Begin n) (Some x) es fs h f =
     let le : length fs ≤ length es = omega (arith, ap length h) in
-    lt_ltb (n + length fs) (length e.nodes) (omega (arith, le, ltb-true (n + length es) (length e.nodes) f))
+    lt-ltb (n + length fs) (length e.nodes) (omega (arith, le, ltb-true (n + length es) (length e.nodes) f))
 next_popped e (Ended r) o es fs h f = refl

@@ -1,5 +1,7 @@
 // The engine: checked programs run over a holding. Closed: no call of it can be made from another crate yet.
 // An internal crate: hosts use `script` or the program `pool`.
+#![tactic(auto)]
+
 mod begin;
 mod calls;
 mod cells;

@@ -1,6 +1,6 @@
 -- Sets of members keep the laws of a kind of levels, at every width.
 use Rattle.std.specs.Prelude.{◌≡◌, refl, Bool, true, false, cond, ◌&&◌, ℕ, ◌^◌, ◌<◌, ltb, eqb}
-use Rattle.std.proofs.Common.{sym, ap, ◌∙◌, subst, arith, pow_pos, ltb-true, lt_ltb, eqb-true, eq_eqb}
+use Rattle.std.proofs.Common.{sym, ap, ◌∙◌, subst, arith, pow_pos, ltb-true, lt-ltb, eqb-true, eq-eqb}
 use Rattle.std.specs.Int.Bits.{bit_and, bit_or, and_self, and_zero_l, and_zero_r}
 use Rattle.std.proofs.lemmas.Nat.{or_comm, or_lt}
 use Rattle.std.proofs.lemmas.Bool.{both_ways}
@@ -24,10 +24,10 @@ module _ (w : ℕ) where
     subset : Subset x y
 
   sets : (x y : ℕ) → x < 2 ^ w → y < 2 ^ w → both_sets w x y ≡ true
-  sets x y p q = ap (λ b. b && ltb y (2 ^ w)) (lt_ltb x (2 ^ w) p) ∙ lt_ltb y (2 ^ w) q
+  sets x y p q = ap (λ b. b && ltb y (2 ^ w)) (lt-ltb x (2 ^ w) p) ∙ lt-ltb y (2 ^ w) q
 
   flowing : (x y : ℕ) → Flows x y → (set_rules w).flows x y ≡ true
-  flowing x y f = ap (λ b. b && eqb (bit_and x y) x) (sets x y f.from f.into) ∙ eq_eqb (bit_and x y) x f.subset
+  flowing x y f = ap (λ b. b && eqb (bit_and x y) x) (sets x y f.from f.into) ∙ eq-eqb (bit_and x y) x f.subset
 
   flowed : (x y : ℕ) → (set_rules w).flows x y ≡ true → Flows x y
   flowed x y h =
@@ -46,13 +46,13 @@ module _ (w : ℕ) where
             let f = flowed x y h in
             let g = flowed y z k in
             flowing x z (record { from = f.from; into = g.into; subset = subset_transitive x y z f.subset g.subset });
-        public_level = lt_ltb 0 (2 ^ w) (pow_pos w);
+        public_level = lt-ltb 0 (2 ^ w) (pow_pos w);
         public_below = λ x h. flowing 0 x (record { from = pow_pos w; into = ltb-true x (2 ^ w) h; subset = and_zero_l x });
         public_alone = λ x h. sym (flowed x 0 h).subset ∙ and_zero_r x;
         joint_level = λ x y h k.
             let p = ltb-true x (2 ^ w) h in
             let q = ltb-true y (2 ^ w) k in
-            ap (λ m. ltb m (2 ^ w)) (union x y p q) ∙ lt_ltb (bit_or x y) (2 ^ w) (or_lt w x y p q);
+            ap (λ m. ltb m (2 ^ w)) (union x y p q) ∙ lt-ltb (bit_or x y) (2 ^ w) (or_lt w x y p q);
         joint_left = λ x y h k.
             let p = ltb-true x (2 ^ w) h in
             let q = ltb-true y (2 ^ w) k in

@@ -1,5 +1,7 @@
 // Kinds of levels: the security lattices that figures are labelled from.
 // An internal crate: hosts use `script` or the program `pool`.
+#![tactic(auto)]
+
 ghost use Rattle.std.specs.Prelude.{◌≡◌};
 ghost use Rattle.levels.specs.Rules.{Rules, Lawful};
 ghost use Rattle.levels.specs.Kinds.{two_level_rules, member_set_rules};

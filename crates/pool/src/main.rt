@@ -1,4 +1,6 @@
 // The program `pool`: answers a session script line by line.
+#![tactic(auto)]
+
 use anyhow::anyhow;
 use checker::verdict::Workspace;
 use commands::files::{decode_digits, read_file_command};

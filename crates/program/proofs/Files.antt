@@ -1,5 +1,5 @@
 -- The parts of a program's file, and a file's trailer by its layout.
-use Rattle.std.proofs.Common.{◌≡◌, ℕ, ◌+◌, ◌-◌, ◌*◌, ◌<◌, ◌≤◌, List, [], ◌∷◌, ◌++◌, length, get_or, drop, sym, refl, ap, ◌∙◌, append_assoc, arith, length_append}
+use Rattle.std.proofs.Common.{◌≡◌, ℕ, ◌+◌, ◌-◌, ◌*◌, ◌<◌, ◌≤◌, List, [], ◌∷◌, ◌++◌, length, get_or, drop, sym, refl, ap, ◌∙◌, append_assoc, arith, length-append}
 use Rattle.std.proofs.lemmas.List.{drop_at, drop-drop, get_or-drop}
 use Rattle.program.specs.Encode.{encoded, each, node_bytes, variable_bytes, procedure_bytes, trailer_bytes, word_bytes}
 use Rattle.program.specs.Fields.{word_at}
@@ -68,14 +68,14 @@ module _ (p : Program) where
 
   length_body : length body ≡ 12 * length p.nodes + 8 * length p.variables + 12 * length p.procedures
   unfolding body
-  length_body = simp length_append (omega (arith, length_nodes, length_variables, length_procedures))
+  length_body = simp length-append (omega (arith, length_nodes, length_variables, length_procedures))
 
   pub laid_encoded : 1 ≤ length p.nodes → length p.nodes ≤ 1024 → length p.variables ≤ 128 → 1 ≤ length p.procedures → length p.procedures ≤ 32 → Laid (encoded p) (counts_of p)
   unfolding body
   laid_encoded some_nodes few_nodes few_variables some_procedures few_procedures =
       let bs = encoded p in
       let e = length bs - 12 in
-      let m = length_append body (trailer_bytes p) in
+      let m = length-append body (trailer_bytes p) in
       let t = drop_at body (trailer_bytes p) e (omega arith) in
       record {
         closing = ap (λ k. drop k bs) (omega arith) ∙ sym (drop-drop 8 e bs) ∙ ap (λ cs. drop 8 cs) t;

@@ -1,7 +1,7 @@
 -- A file has a layout exactly where its trailer is that of the layout.
 use Rattle.std.proofs.Common.{◌≡◌, ℕ, ◌+◌, ◌-◌, ◌*◌, ◌/◌, ◌%◌, ◌≤◌, Bool, true, false, cond, leb, List, [], ◌∷◌, length, drop, Ok, Err, Result, sym, refl, ap, ◌∙◌, arith}
 use Rattle.std.proofs.lemmas.List.{drop_all}
-use Rattle.std.proofs.lemmas.Bool.{and_parts, and_from, cond_true, leb-true, le-leb}
+use Rattle.std.proofs.lemmas.Bool.{and_parts, and_from, cond-true, leb-true, le-leb}
 use Rattle.std.proofs.lemmas.Bool.Decides.{nat_tests}
 use Rattle.program.specs.Fields.{word_at}
 use Rattle.program.specs.Layout.{is_closing, closes, in_order, in_number, laid, counted, placed, layout_of, Covers}
@@ -71,7 +71,7 @@ layout_from_laid bs l h =
     let e = length bs - 12 in
     let d = places_from_counts v p e l h.variable_place h.procedure_place (omega arith) in
     let k : closes bs ≡ true = rw h.closing (and_from (leb 12 (length bs)) true (le-leb 12 (length bs) (omega arith)) refl) in
-    cond_true (closes bs) (placed v p e) (Err Closing) k
-    ∙ cond_true (in_order v p e) (counted (laid v p e)) (Err Places) d.0
-    ∙ cond_true (in_number (laid v p e)) (Ok (laid v p e)) (Err Counts) (ap in_number d.2 ∙ d.1)
+    cond-true (closes bs) (placed v p e) (Err Closing) k
+    ∙ cond-true (in_order v p e) (counted (laid v p e)) (Err Places) d.0
+    ∙ cond-true (in_number (laid v p e)) (Ok (laid v p e)) (Err Counts) (ap in_number d.2 ∙ d.1)
     ∙ ap Ok d.2

@@ -1,6 +1,6 @@
 -- A record decodes to what was encoded, and encodes to what was decoded.
 use Rattle.std.proofs.Common.{◌≡◌, ℕ, ◌<◌, Bool, true, false, cond, ◌&&◌, eqb, ltb, Some, None, Option, sym, refl, ap, ◌∙◌, arith}
-use Rattle.std.proofs.lemmas.Bool.{eqb-true, ltb-true, lt_ltb, ne_eqb, cond_both}
+use Rattle.std.proofs.lemmas.Bool.{eqb-true, ltb-true, lt-ltb, ne_eqb, cond_both}
 use Rattle.std.proofs.lemmas.Bool.Decides.{nat_tests}
 use Rattle.words.specs.Numbers.{type_number, type_numbered, arithmetic_number, arithmetic_numbered, comparison_number, comparison_numbered}
 use Rattle.words.specs.declared.types.DataType.{DataType}
@@ -115,7 +115,7 @@ pub record PlainNode (n : Node) : Type 0 where
   pub next : (a k : ℕ) → n ≡ Argument a (Some k) → k ≡ 65535 → ⊥
 
 pub decodes_encoded_node : (n : Node) → PlainNode n → node_decoded (node_encoded n) ≡ Some n
-decodes_encoded_node (Constant Boolean w) h = rw (lt_ltb w 2 (h.bool w refl))
+decodes_encoded_node (Constant Boolean w) h = rw (lt-ltb w 2 (h.bool w refl))
 decodes_encoded_node (Constant Int w) h = refl
 decodes_encoded_node (Constant Unsigned w) h = refl
 decodes_encoded_node (Variable v) h = refl

@@ -1,5 +1,5 @@
 -- The bytes of a list of records that are all of one size: their length, each record in them, and a list of bytes that begins with them.
-use Rattle.std.proofs.Common.{◌≡◌, ℕ, zero, suc, ◌*◌, ◌<◌, List, [], ◌∷◌, ◌++◌, length, get_or, drop, sym, ap, ◌∙◌, append_assoc, suc-le-suc, le_of_suc-le-suc, not-suc-le-zero, add_comm, mul-zero, mul-suc, arith, length_append}
+use Rattle.std.proofs.Common.{◌≡◌, ℕ, zero, suc, ◌*◌, ◌<◌, List, [], ◌∷◌, ◌++◌, length, get_or, drop, sym, ap, ◌∙◌, append_assoc, suc-le-suc, le_of_suc-le-suc, not-suc-le-zero, add_comm, mul-zero, mul-suc, arith, length-append}
 use Rattle.std.proofs.lemmas.List.{drop-drop, drop_at}
 use Rattle.program.specs.Encode.{each}
 
@@ -19,7 +19,7 @@ module _ {X : Type 0} (bytes : X → List ℕ) (size : ℕ) (d : X) where
   module _ (sized : (x : X) → length (bytes x) ≡ size) where
     pub length_each : (xs : List X) → length (each bytes xs) ≡ size * length xs
     length_each [] = sym (mul-zero size)
-    length_each (x ∷ xs) = omega (arith, length_append (bytes x) (each bytes xs), sized x, length_each xs, mul-suc size (length xs))
+    length_each (x ∷ xs) = omega (arith, length-append (bytes x) (each bytes xs), sized x, length_each xs, mul-suc size (length xs))
 
     pub drop_each : (xs : List X) (i : ℕ) (rest : List ℕ) → i < length xs → drop (size * i) (each bytes xs ++ rest) ≡ bytes (get_or xs i d) ++ (each bytes (drop (suc i) xs) ++ rest)
     drop_each [] i rest h = absurd (not-suc-le-zero h)

@@ -1,4 +1,6 @@
 // What the commands of a session script are answered.
+#![tactic(auto)]
+
 pub mod amending;
 pub mod answers;
 pub mod desk;

@@ -1,6 +1,6 @@
 -- Figures and cells that an observer of level o cannot tell apart. Here alone the laws of the levels are used.
 use Rattle.std.proofs.Common.{◌≡◌, ℕ, zero, suc, Bool, true, false, cond, eqb, List, [], ◌∷◌, length, get_or, take, drop, set, sym, refl, ap, ◌∙◌, subst, true≢false, arith, get_or-set_other, get_or-set_same}
-use Rattle.std.proofs.lemmas.Bool.{eqb-true, eq_eqb}
+use Rattle.std.proofs.lemmas.Bool.{eqb-true, eq-eqb}
 use Rattle.levels.specs.Rules.{Rules, Lawful}
 use Rattle.program.specs.Program.{Program, no_variable}
 use Rattle.program.specs.declared.records.Variable.{Variable}
@@ -119,7 +119,7 @@ module _ (r : Rules) (law : Lawful r) (o : ℕ) (known : r.is_level o ≡ true) 
             let i : u ≡ v = eqb-true u v e in
             there k x u z q i a.left ∙ (g z (subst (λ (n : ℕ). VariableIs p n z) i q)).same s ∙ sym (there j y u z q i a.right)
         by u z q s false e =
-            let n : u ≡ v → ⊥ = λ i. true≢false (sym (eq_eqb u v i) ∙ e) in
+            let n : u ≡ v → ⊥ = λ i. true≢false (sym (eq-eqb u v i) ∙ e) in
             apart k x u n ∙ a.same u z q s ∙ sym (apart j y u n)
 
     pub alike_cleared : (g i : ℕ) (vs : List Variable) (k j : Kept) → drop i p.variables ≡ vs → Alike r o p k j → Alike r o p (cleared g i vs k) (cleared g i vs j)

@@ -1,6 +1,6 @@
 -- Figures and cells that fit their levels, through the changes that a run makes.
 use Rattle.std.proofs.Common.{◌≡◌, ℕ, zero, suc, ◌+◌, ◌<◌, ◌≤◌, Bool, true, false, cond, eqb, List, [], ◌∷◌, length, get_or, take, drop, set, sym, refl, ap, ◌∙◌, subst, true≢false, add-zero, arith, length-set, get_or-set_other, get_or-set_same}
-use Rattle.std.proofs.lemmas.Bool.{eqb-true, eq_eqb}
+use Rattle.std.proofs.lemmas.Bool.{eqb-true, eq-eqb}
 use Rattle.levels.specs.Rules.{Rules, Lawful}
 use Rattle.program.specs.Program.{Program, at, no_variable}
 use Rattle.program.specs.declared.records.Variable.{Variable}
@@ -37,7 +37,7 @@ flow_takes {r = r} law m l (Held w) h f = by (eqb l 0) refl
     by : (t : Bool) → eqb l 0 ≡ t → eqb l 0 ≡ false
     by true e =
         let z : m ≡ 0 = law.public_alone m (subst (λ (i : ℕ). r.flows m i ≡ true) (eqb-true l 0 e) h) in
-        absurd (true≢false (sym (eq_eqb m 0 z) ∙ f))
+        absurd (true≢false (sym (eq-eqb m 0 z) ∙ f))
     by false e = e
 
 -- ---- only what is stored changes the cells
@@ -99,7 +99,7 @@ module _ (p : Program) where
           subst (λ n. Fits y.level (get_or (set (settling l x k).cells v (settled l x)) n (Plain 0))) (sym z)
           (subst (λ z. Fits y.level z) (sym (get_or-set_same (settling l x k).cells v (settled l x) (Plain 0) lt)) (g y i'))
       by u y i false e j =
-          subst (λ z. Fits y.level z) (sym (get_or-set_other (settling l x k).cells v u (settled l x) (Plain 0) (λ z. absurd (true≢false (sym (eq_eqb u v z) ∙ e))))) (j.fits u y i)
+          subst (λ z. Fits y.level z) (sym (get_or-set_other (settling l x k).cells v u (settled l x) (Plain 0) (λ z. absurd (true≢false (sym (eq-eqb u v z) ∙ e))))) (j.fits u y i)
 
   -- the figures that the parameters take
   abbrev pub Passable : List (Value ℕ) → List Variable → Type 0

@@ -1,7 +1,7 @@
 -- The tables of a file that no row refuses are those of the program that it encodes, and what a node may begin lies below it.
 use Rattle.std.proofs.Common.{◌≡◌, ℕ, ◌<◌, ◌≤◌, true, ltb, List, [], ◌∷◌, length, get_or, Some, None, Ok, Err, Option, Result, sym, refl, ap, ◌∙◌, subst, ap₂, inl, inr, ⊎_elim, le_refl, arith}
 use Rattle.std.proofs.lemmas.List.{get_or_past}
-use Rattle.std.proofs.lemmas.Bool.{and_from, lt_ltb, cases_lt}
+use Rattle.std.proofs.lemmas.Bool.{and_from, lt-ltb, cases_lt}
 use Rattle.levels.specs.Rules.{Rules}
 use Rattle.program.specs.Layout.{layout_of}
 use Rattle.program.specs.Program.{Program, children, no_node, no_procedure}
@@ -71,7 +71,7 @@ checked r bs l h = by_layout r bs l (layout_of bs) refl h
 
 each_below : (n : ℕ) (ms : List ℕ) → ((m : ℕ) → Among m ms → m < n) → all_below n ms ≡ true
 each_below n [] h = refl
-each_below n (m ∷ ms) h = and_from (ltb m n) (all_below n ms) (lt_ltb m n (h m (inl refl))) (each_below n ms (λ k c. h k (inr c)))
+each_below n (m ∷ ms) h = and_from (ltb m n) (all_below n ms) (lt-ltb m n (h m (inl refl))) (each_below n ms (λ k c. h k (inr c)))
 
 module _ (r : Rules) (p : Program) (formed : WellFormed r p) (well : WellTyped r p) where
   -- the tables have each node of the program, and past the last one a node that begins nothing
@@ -104,7 +104,7 @@ module _ (r : Rules) (p : Program) (formed : WellFormed r p) (well : WellTyped r
   callee_below n (Or a b) lt h = refl
   callee_below n (Choice a b c) lt h = refl
   callee_below n (Assignment v b) lt h = refl
-  callee_below n (Call g f) lt h = lt_ltb (procedure (environment_of r p) g).body n (called_below n g f lt h)
+  callee_below n (Call g f) lt h = lt-ltb (procedure (environment_of r p) g).body n (called_below n g f lt h)
   callee_below n (Argument a m) lt h = refl
   callee_below n (Release a) lt h = refl
   callee_below n (Expression a) lt h = refl

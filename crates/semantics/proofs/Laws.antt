@@ -1,7 +1,7 @@
 -- The laws of the operators and of what is put in.
 use Rattle.std.proofs.Common.{◌≡◌, ℕ, zero, suc, ◌+◌, Bool, true, false, cond, eqb, length, Some, None, unwrap_or, sym, refl, ap, ◌∙◌, true≢false}
 use lib.Signed.{quot_z, rem_z}
-use Rattle.std.proofs.lemmas.Bool.{eq_eqb}
+use Rattle.std.proofs.lemmas.Bool.{eq-eqb}
 use Rattle.words.specs.Ints.{int_of, word_of}
 use Rattle.words.specs.Operators.{value_at, exact, by_zero, arithmetic_word, held_arithmetic_word}
 use Rattle.words.specs.declared.types.Arithmetic.{Arithmetic as Calculation}
@@ -86,9 +86,9 @@ public_decides : (o : Operator) (x : Value ℕ) (l : ℕ) → Fits l x → l ≡
 public_decides (Calculates o t) x l f z = refl
 public_decides (Compares o t) x l f z = refl
 public_decides And (Plain w) l f z = refl
-public_decides And (Held w) l f z = absurd (true≢false (sym (eq_eqb l 0 z) ∙ f))
+public_decides And (Held w) l f z = absurd (true≢false (sym (eq-eqb l 0 z) ∙ f))
 public_decides Or (Plain w) l f z = refl
-public_decides Or (Held w) l f z = absurd (true≢false (sym (eq_eqb l 0 z) ∙ f))
+public_decides Or (Held w) l f z = absurd (true≢false (sym (eq-eqb l 0 z) ∙ f))
 
 -- ---- divisors
 
@@ -116,7 +116,7 @@ module _ (r : Rules) (p : Program) (formed : WellFormed r p) (well : WellTyped r
         operands_typed = typed;
         skips_only_public = λ q a l i m t o x s u k j d f h e. decided_public o x l e (fit.expressions q a l i t s k _ d f h).0;
         skips_where_decisive = λ q a l i m t o x s u k j d f h z. public_decides o x l (fit.expressions q a l i t s k _ d f h).0 z;
-        zero_divisor_ends = λ q n a b l m t u o x y s k i d z h. at_level m u o x y s k d (eq_eqb l 0 z) ∙ stopped o u (plain_word x) (plain_word y) m s k h;
+        zero_divisor_ends = λ q n a b l m t u o x y s k i d z h. at_level m u o x y s k d (eq-eqb l 0 z) ∙ stopped o u (plain_word x) (plain_word y) m s k h;
         held_divisor_goes_on = λ q n a b l m t u o x y s k i d h. at_level m u o x y s k d h;
       }
 

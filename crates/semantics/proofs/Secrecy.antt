@@ -1,5 +1,5 @@
 -- No sequence of calls carries a hidden figure to an observer, except in a released word.
-use Rattle.std.proofs.Common.{◌≡◌, ℕ, suc, ◌+◌, ◌-◌, ◌<◌, ◌≤◌, Bool, true, false, cond, ◌&&◌, ltb, List, [], ◌∷◌, ◌++◌, length, get_or, take, Some, None, Ok, Err, Option, Result, sym, refl, ap, ◌∙◌, subst, true≢false, le_refl, arith, length_append}
+use Rattle.std.proofs.Common.{◌≡◌, ℕ, suc, ◌+◌, ◌-◌, ◌<◌, ◌≤◌, Bool, true, false, cond, ◌&&◌, ltb, List, [], ◌∷◌, ◌++◌, length, get_or, take, Some, None, Ok, Err, Option, Result, sym, refl, ap, ◌∙◌, subst, true≢false, le_refl, arith, length-append}
 use Rattle.levels.specs.Rules.{Rules, Lawful}
 use Rattle.holding.specs.declared.shares.Counts.{Counts}
 use Rattle.program.specs.Program.{Program, no_procedure}
@@ -193,7 +193,7 @@ module _ (r : Rules) (law : Lawful r) (o : ℕ) (known : r.is_level o ≡ true) 
   told_at {xs = xs} {d = d} i j e f t = subst (λ (a : Config). Told xs i a) (sym f) (subst (λ (a : Config). Told xs a d) (sym e) t)
 
   grows_longer : (xs ys : List Line) → Grows xs ys → length xs ≤ length ys
-  grows_longer xs ys (zs, e) = omega (arith, ap length e, length_append xs zs)
+  grows_longer xs ys (zs, e) = omega (arith, ap length e, length-append xs zs)
 
   after_grows : (c : Config) (x : Request) → Grows (shown c).lines (shown (after r (environment_of r p) c x)).lines
   after_grows c (Run n) = by (too_many n c)

@@ -1,6 +1,6 @@
 -- Two runs that an observer cannot tell apart stay so turn by turn, or their lines part at a release.
 use Rattle.std.proofs.Common.{◌≡◌, ℕ, zero, suc, Bool, true, false, cond, eqb, List, [], ◌∷◌, ◌++◌, length, Some, None, Option, sym, refl, ap, ◌∙◌, subst, inl, inr, true≢false, append_assoc, append-nil}
-use Rattle.std.proofs.lemmas.Bool.{eqb-true, eq_eqb}
+use Rattle.std.proofs.lemmas.Bool.{eqb-true, eq-eqb}
 use Rattle.words.specs.Operators.{minus_word, not_word}
 use Rattle.words.specs.declared.types.DataType.{DataType}
 use Rattle.words.specs.declared.types.DataType.TheVariants.{Bool as Boolean}
@@ -150,12 +150,12 @@ module _ (r : Rules) (law : Lawful r) (o : ℕ) (known : r.is_level o ≡ true) 
   decides_alike (Calculates c t) l x y a = refl
   decides_alike (Compares c t) l x y a = refl
   decides_alike And l (Plain w) (Plain v) a = ap (decides And) (public_same r law o known (agree_at r law o known a.left a))
-  decides_alike And l (Plain w) (Held v) a = absurd (true≢false (sym (eq_eqb l 0 a.left) ∙ a.right))
-  decides_alike And l (Held w) (Plain v) a = absurd (true≢false (sym (eq_eqb l 0 a.right) ∙ a.left))
+  decides_alike And l (Plain w) (Held v) a = absurd (true≢false (sym (eq-eqb l 0 a.left) ∙ a.right))
+  decides_alike And l (Held w) (Plain v) a = absurd (true≢false (sym (eq-eqb l 0 a.right) ∙ a.left))
   decides_alike And l (Held w) (Held v) a = refl
   decides_alike Or l (Plain w) (Plain v) a = ap (decides Or) (public_same r law o known (agree_at r law o known a.left a))
-  decides_alike Or l (Plain w) (Held v) a = absurd (true≢false (sym (eq_eqb l 0 a.left) ∙ a.right))
-  decides_alike Or l (Held w) (Plain v) a = absurd (true≢false (sym (eq_eqb l 0 a.right) ∙ a.left))
+  decides_alike Or l (Plain w) (Held v) a = absurd (true≢false (sym (eq-eqb l 0 a.left) ∙ a.right))
+  decides_alike Or l (Held w) (Plain v) a = absurd (true≢false (sym (eq-eqb l 0 a.right) ∙ a.left))
   decides_alike Or l (Held w) (Held v) a = refl
 
   first_low : {q b l m : ℕ} {t : DataType} {k j : Kept} (n : ℕ) (f : Operator) (x y : Value ℕ) → level_of (environment_of r p) n ≡ r.joint l m → r.is_level l ≡ true → r.is_level m ≡ true → Expression r p q b t m → Agree r o l x y → Alike r o p k j → Moves r o p (figure (r.joint l m)) (got (environment_of r p) n (first f b) x k) (got (environment_of r p) n (first f b) y j)
@@ -333,7 +333,7 @@ module _ (r : Rules) (law : Lawful r) (o : ℕ) (known : r.is_level o ≡ true) 
           (up (Gives (Plain w)) (Gives (Plain w)) (written ReleaseLine n t w s) k j (e_gives (one_public r law o known w)) al)
       by false e =
           parted (length s.lines)
-          (parts_here s.lines n s.spent w v t (shown (pass (environment_of r p) fs (Gives (Plain w)) (written ReleaseLine n t w s) k)).lines (shown (pass (environment_of r p) gs (Gives (Plain v)) (written ReleaseLine n t v s) j)).lines (λ q. true≢false (sym (eq_eqb w v q) ∙ e)) (pass_grows (environment_of r p) fs (Gives (Plain w)) (written ReleaseLine n t w s) k) (pass_grows (environment_of r p) gs (Gives (Plain v)) (written ReleaseLine n t v s) j))
+          (parts_here s.lines n s.spent w v t (shown (pass (environment_of r p) fs (Gives (Plain w)) (written ReleaseLine n t w s) k)).lines (shown (pass (environment_of r p) gs (Gives (Plain v)) (written ReleaseLine n t v s) j)).lines (λ q. true≢false (sym (eq-eqb w v q) ∙ e)) (pass_grows (environment_of r p) fs (Gives (Plain w)) (written ReleaseLine n t w s) k) (pass_grows (environment_of r p) gs (Gives (Plain v)) (written ReleaseLine n t v s) j))
 
   drive_low : {a : Part} {v w : Move} (fs gs : List Frame) (s : Shown) → Stack r o p a fs gs → Onward a fs gs → Moves r o p a v w → Seen r o p (drive (environment_of r p) fs (pass (environment_of r p) fs) s v) (drive (environment_of r p) gs (pass (environment_of r p) gs) s w)
   drive_low fs gs s st up (m_begin b al) = same (low_at b st al)

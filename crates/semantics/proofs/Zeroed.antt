@@ -1,7 +1,7 @@
 -- Once every variable is set to 0, all cells fit their levels.
 use Rattle.std.proofs.Common.{◌≡◌, ℕ, suc, ◌+◌, ◌<◌, ◌≤◌, Bool, true, false, eqb, List, [], ◌∷◌, length, get_or, drop, set, sym, refl, ap, ◌∙◌, subst, true≢false, not-suc-le-zero, arith, length-set, get_or-set_other, get_or-set_same}
 use lib.ListN.{length-replicate}
-use Rattle.std.proofs.lemmas.Bool.{eqb-true, eq_eqb}
+use Rattle.std.proofs.lemmas.Bool.{eqb-true, eq-eqb}
 use Rattle.holding.specs.declared.shares.Counts.{Counts}
 use Rattle.levels.specs.Rules.{Rules}
 use Rattle.program.specs.Program.{Program, no_variable}
@@ -38,7 +38,7 @@ module _ (p : Program) where
           let got = ap (λ (n : ℕ). get_or (set (settling y.level (Plain 0) k).cells i (settled y.level (Plain 0))) n (Plain 0)) here ∙ get_or-set_same (settling y.level (Plain 0) k).cells i (settled y.level (Plain 0)) (Plain 0) few in
           subst (Fits x.level) (sym got) (subst (λ (w : Variable). Fits w.level (settled y.level (Plain 0))) is (plain_takes y.level 0))
       by v x h lt false e =
-          let apart : v ≡ i → ⊥ = λ q. true≢false (sym (eq_eqb v i q) ∙ e) in
+          let apart : v ≡ i → ⊥ = λ q. true≢false (sym (eq-eqb v i q) ∙ e) in
           let less : v < i = omega (arith, lt, apart) in
           let got = get_or-set_other (settling y.level (Plain 0) k).cells i v (settled y.level (Plain 0)) (Plain 0) apart ∙ ap (λ (xs : List (Value ℕ)). get_or xs v (Plain 0)) (settling_cells y.level (Plain 0) k) in
           subst (Fits x.level) (sym got) (b.fits v x h less)

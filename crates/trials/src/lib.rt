@@ -1,4 +1,6 @@
 // Trials of operators, kinds of levels and holdings on words at the edges of the data types, and of the verdict on files.
+#![tactic(auto)]
+
 #[cfg(test)]
 mod edges;
 #[cfg(test)]

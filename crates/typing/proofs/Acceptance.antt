@@ -1,7 +1,7 @@
 -- No row refuses a file exactly where its program passes every row.
 use Rattle.std.proofs.Common.{◌≡◌, ℕ, zero, suc, ◌+◌, ◌-◌, ◌*◌, ◌<◌, ◌≤◌, Bool, true, false, cond, not, ◌&&◌, ◌||◌, eqb, ltb, leb, ◌⊎◌, List, [], ◌∷◌, ◌++◌, length, get_or, take, drop, Some, None, Option, sym, refl, ap, ◌∙◌, subst, ap₂, inl, inr, ⊎_elim, le_refl, add-zero, add_assoc, arith, take_all, take-suc}
 use native.Mathlib.Nat.{le_step}
-use Rattle.std.proofs.lemmas.Bool.{and_parts, and_from, ltb-true, lt_ltb, eqb-true, eq_eqb, ne_eqb}
+use Rattle.std.proofs.lemmas.Bool.{and_parts, and_from, ltb-true, lt-ltb, eqb-true, eq-eqb, ne_eqb}
 use Rattle.levels.specs.Rules.{Rules}
 use Rattle.program.proofs.Files.{counts_of}
 use Rattle.program.proofs.Statements.{statement_node, kind_of_statement}
@@ -139,7 +139,7 @@ module _ (r : Rules) (bs : List ℕ) (p : Program) (reads : Reads bs p (counts_o
   rises_shown : (q b : ℕ) → q < length p.procedures → ((o : ℕ) (d : Procedure) → suc o ≡ q → ProcedureIs p o d → d.body < b) → rises (procedures_in parts q) b ≡ true
   rises_shown zero b lt h = rises_first b
   rises_shown (suc o) b lt h =
-      rises_after o b lt ∙ lt_ltb (get_or p.procedures o no_procedure).body b (h o (get_or p.procedures o no_procedure) refl (at_there no_procedure p.procedures o (omega arith)))
+      rises_after o b lt ∙ lt-ltb (get_or p.procedures o no_procedure).body b (h o (get_or p.procedures o no_procedure) refl (at_there no_procedure p.procedures o (omega arith)))
 
   kind_is : (n : ℕ) → n < length p.nodes → is_statement_kind (get_or bs (12 * n) 0) ≡ statement_node (get_or p.nodes n no_node)
   kind_is n lt = ap is_statement_kind (kind_from_reads bs p (counts_of p) n lt reads) ∙ kind_of_statement (get_or p.nodes n no_node)
@@ -148,12 +148,12 @@ module _ (r : Rules) (bs : List ℕ) (p : Program) (reads : Reads bs p (counts_o
   last_shown q b h = by (eqb (q + 1) (length p.procedures)) refl
     where
       by : (c : Bool) → eqb (q + 1) (length p.procedures) ≡ c → (not c || eqb (b + 1) (length p.nodes)) ≡ true
-      by true e = let last = h (omega (arith, eqb-true (q + 1) (length p.procedures) e)) in eq_eqb (b + 1) (length p.nodes) (omega arith)
+      by true e = let last = h (omega (arith, eqb-true (q + 1) (length p.procedures) e)) in eq-eqb (b + 1) (length p.nodes) (omega arith)
       by false e = refl
 
   last_told : (q b : ℕ) → (not (eqb (q + 1) (length p.procedures)) || eqb (b + 1) (length p.nodes)) ≡ true → suc q ≡ length p.procedures → suc b ≡ length p.nodes
   last_told q b h e =
-      let t = ap (λ c. not c || eqb (b + 1) (length p.nodes)) (sym (eq_eqb (q + 1) (length p.procedures) (omega arith))) ∙ h in
+      let t = ap (λ c. not c || eqb (b + 1) (length p.nodes)) (sym (eq-eqb (q + 1) (length p.procedures) (omega arith))) ∙ h in
       omega (arith, eqb-true (b + 1) (length p.nodes) t)
 
   Stands : ℕ → ℕ → Bool
@@ -191,7 +191,7 @@ module _ (r : Rules) (bs : List ℕ) (p : Program) (reads : Reads bs p (counts_o
       (neither _ _
       (shown _ _
       (and_from _ _
-      (and_from _ _ (and_from _ _ (rises_shown q d.body lt c.above) (lt_ltb d.body (length p.nodes) c.body))
+      (and_from _ _ (and_from _ _ (rises_shown q d.body lt c.above) (lt-ltb d.body (length p.nodes) c.body))
       (kind_is d.body c.body ∙ c.statement (get_or p.nodes d.body no_node) (at_there no_node p.nodes d.body c.body)))
       (last_shown q d.body c.last)))
       (shown _ _ c.main))

@@ -1,6 +1,6 @@
 -- Which procedure a node belongs to: the running count of bodies is the procedure whose nodes have it.
 use Rattle.std.proofs.Common.{◌≡◌, ℕ, zero, suc, ◌<◌, ◌≤◌, Bool, true, false, cond, eqb, ◌⊎◌, List, length, get_or, Some, None, Option, sym, refl, ap, ◌∙◌, subst, inl, inr, ⊎_elim, zero-le, le_refl, le_of_suc-le-suc, eq-or-lt_of_le, arith}
-use Rattle.std.proofs.lemmas.Bool.{eqb-true, eqb-false, eq_eqb, cases_order}
+use Rattle.std.proofs.lemmas.Bool.{eqb-true, eqb-false, eq-eqb, cases_order}
 use Rattle.program.specs.Program.{Program, at, no_procedure}
 use Rattle.program.specs.declared.records.Procedure.{Procedure}
 use Rattle.typing.specs.Environment.{procedure_of, body_in}
@@ -84,4 +84,4 @@ module _
     pub body_shown : (n : ℕ) → n < length p.nodes → IsBody p n → is_body p.procedures n ≡ true
     body_shown n lt (q, d, h, e) =
         let same : q ≡ home p n = belongs_once q (home p n) n (subst (Belongs p q) e (body_belongs q d h)) (belongs n lt) in
-        eq_eqb (body_in (at no_procedure p.procedures (home p n))) n (ap (λ (o : ℕ). body_in (at no_procedure p.procedures o)) (sym same) ∙ ap body_in h ∙ e)
+        eq-eqb (body_in (at no_procedure p.procedures (home p n))) n (ap (λ (o : ℕ). body_in (at no_procedure p.procedures o)) (sym same) ∙ ap body_in h ∙ e)

@@ -1,6 +1,6 @@
 -- A node with a derivation passes the rows.
 use Rattle.std.proofs.Common.{◌≡◌, ℕ, zero, suc, ◌+◌, ◌<◌, ◌≤◌, Bool, true, false, cond, not as negate, ◌&&◌, ◌||◌, eqb, ltb, List, [], ◌∷◌, length, get_or, take, drop, Some, None, Option, sym, refl, ap, ◌∙◌, subst, ap₂, inl, inr, arith, drop-cons}
-use Rattle.std.proofs.lemmas.Bool.{lt_ltb, eq_eqb, and_from as two}
+use Rattle.std.proofs.lemmas.Bool.{lt-ltb, eq-eqb, and_from as two}
 use Rattle.words.specs.Numbers.{type_number}
 use Rattle.words.specs.declared.types.DataType.{DataType}
 use Rattle.words.specs.declared.types.DataType.TheVariants.{Bool as Boolean, Int, Unsigned}
@@ -55,19 +55,19 @@ comparable_taken GreaterOrEqual t h = order_taken t h
 readable_passes : (q : ℕ) (u : Role) → Readable q u → readable_role q u ≡ true
 readable_passes q Global h = refl
 readable_passes q Input h = refl
-readable_passes q (Local o) h = eq_eqb o q h
-readable_passes q (Parameter o) h = eq_eqb o q h
+readable_passes q (Local o) h = eq-eqb o q h
+readable_passes q (Parameter o) h = eq-eqb o q h
 
 assignable_passes : (q : ℕ) (u : Role) → Assignable q u → assignable_role q u ≡ true
 assignable_passes q Global h = refl
 assignable_passes q Input h = refl
-assignable_passes q (Local o) h = eq_eqb o q h
+assignable_passes q (Local o) h = eq-eqb o q h
 assignable_passes q (Parameter o) h = absurd h
 
 definable_passes : (q : ℕ) (u : Role) → Definable q u → definable_role q u ≡ true
 definable_passes q Global h = absurd h
 definable_passes q Input h = absurd h
-definable_passes q (Local o) h = eq_eqb o q h
+definable_passes q (Local o) h = eq-eqb o q h
 definable_passes q (Parameter o) h = absurd h
 
 -- all rows but the demand on a body
@@ -94,10 +94,10 @@ module _
         let lt = lower n m x h c in
         let small : m < 1024 = omega (arith, at_below no_node p.nodes n x h) in
         let same : (typed r p m).procedure ≡ q = procedure_is r p m ∙ beside n m x h c ∙ sym home in
-        ap (λ (b : Bool). cond b (cond (ltb m n) (class_within q (node_at (below r p n) m)) None) None) (lt_ltb m 1024 small)
-        ∙ ap (λ (b : Bool). cond b (class_within q (node_at (below r p n) m)) None) (lt_ltb m n lt)
+        ap (λ (b : Bool). cond b (cond (ltb m n) (class_within q (node_at (below r p n) m)) None) None) (lt-ltb m 1024 small)
+        ∙ ap (λ (b : Bool). cond b (class_within q (node_at (below r p n) m)) None) (lt-ltb m n lt)
         ∙ ap (class_within q) (seen r p n m lt)
-        ∙ ap (λ (b : Bool). cond b (Some (typed r p m).class) None) (eq_eqb (typed r p m).procedure q same)
+        ∙ ap (λ (b : Bool). cond b (Some (typed r p m).class) None) (eq-eqb (typed r p m).procedure q same)
 
     value_known : (q n m l : ℕ) (t : Option DataType) (x : Node) → Home q n → NodeIs p n x → Among m (children x) → (typed r p m).class ≡ Value t l → is_value (child_class (below r p n) n q m) ≡ true
     value_known q n m l t x home h c e = ap is_value (child_known q n m x home h c) ∙ ap (λ (k : Class). is_value (Some k)) e
@@ -135,7 +135,7 @@ module _
     both_agree n a b t d e = ap₂ agree d e ∙ agree_same t
 
     public : (n m : ℕ) → level_of (below r p n) m ≡ 0 → eqb (level_of (below r p n) m) 0 ≡ true
-    public n m e = eq_eqb (level_of (below r p n) m) 0 e
+    public n m e = eq-eqb (level_of (below r p n) m) 0 e
 
     -- ---- the arguments of a call
 
@@ -294,7 +294,7 @@ module _
       record {
         child = argument_child_passes q n f _ (parameters_of p d) home h (among_first g f) s;
         scope = refl;
-        called = two _ _ (lt_ltb g q lt) (call_passes q n g f d Number h i s);
+        called = two _ _ (lt-ltb g q lt) (call_passes q n g f d Number h i s);
         types = call_passes q n g f d Types h i s;
         levels = call_passes q n g f d Levels h i s;
         parts = refl;
@@ -311,7 +311,7 @@ module _
       record {
         child = argument_child_passes q n f _ (parameters_of p d) home h (among_first g f) s;
         scope = refl;
-        called = two _ _ (lt_ltb g q lt) (call_passes q n g f d Number h i s);
+        called = two _ _ (lt-ltb g q lt) (call_passes q n g f d Number h i s);
         types = call_passes q n g f d Types h i s;
         levels = call_passes q n g f d Levels h i s;
         parts = refl;

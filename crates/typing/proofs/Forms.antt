@@ -1,6 +1,6 @@
 -- A program that passes every row is well formed and well typed.
 use Rattle.std.proofs.Common.{◌≡◌, ℕ, zero, suc, ◌+◌, ◌<◌, ◌≤◌, Bool, true, false, cond, not, ◌&&◌, ◌||◌, eqb, ltb, leb, ◌⊎◌, List, [], ◌∷◌, length, get_or, Some, None, Option, sym, refl, ap, ◌∙◌, subst, ap₂, inl, inr, ⊎_elim, le_refl, le_of_suc-le-suc, not-suc-le-zero, eq-or-lt_of_le, arith}
-use Rattle.std.proofs.lemmas.Bool.{and_parts, ltb-true, leb-true, le-leb, lt_ltb, eqb-true, eq_eqb, not-true, cases_Bool, both_ways}
+use Rattle.std.proofs.lemmas.Bool.{and_parts, ltb-true, leb-true, le-leb, lt-ltb, eqb-true, eq-eqb, not-true, cases_Bool, both_ways}
 use Rattle.words.specs.declared.types.DataType.{DataType}
 use Rattle.words.specs.declared.types.DataType.TheVariants.{Bool as Boolean}
 use Rattle.levels.specs.Rules.{Rules}
@@ -68,7 +68,7 @@ pub within_told : (f c i : ℕ) → (leb f i && ltb i (f + c)) ≡ true → With
 within_told f c i h = let k = and_parts (leb f i) (ltb i (f + c)) h in (leb-true f i k.0, ltb-true i (f + c) k.1)
 
 pub within_shown : (f c i : ℕ) → Within f c i → (leb f i && ltb i (f + c)) ≡ true
-within_shown f c i w = ap₂ (λ (a b : Bool). a && b) (le-leb f i w.0) (lt_ltb i (f + c) w.1)
+within_shown f c i w = ap₂ (λ (a b : Bool). a && b) (le-leb f i w.0) (lt-ltb i (f + c) w.1)
 
 -- the test of the parameters, part by part
 record Parameters (vs : List VariableRecord) (q : ℕ) (d : Procedure) : Type 0 where
@@ -112,15 +112,15 @@ module _ (r : Rules) (p : Program) (k : Checks r p) where
       let c = k.procedures q d h in
       let level = and_parts (r.is_level d.level) (void_fits d.result d.level) c.result in
       let m = parameters_told p.variables q d c.parameters in
-      let main : suc q ≡ length p.procedures → (is_absent d.result && eqb d.parameters 0) ≡ true = λ e. or_told (eqb (q + 1) (length p.procedures)) _ c.main (eq_eqb (q + 1) (length p.procedures) (omega arith)) in
+      let main : suc q ≡ length p.procedures → (is_absent d.result && eqb d.parameters 0) ≡ true = λ e. or_told (eqb (q + 1) (length p.procedures)) _ c.main (eq-eqb (q + 1) (length p.procedures) (omega arith)) in
       record {
         level = level.0;
         void_public = void_told d.result d.level level.1;
         few = leb-true d.parameters 8 m.few;
-        none = λ e. eqb-true d.first_parameter 0 (or_told (eqb d.parameters 0) _ m.none (eq_eqb d.parameters 0 e));
+        none = λ e. eqb-true d.first_parameter 0 (or_told (eqb d.parameters 0) _ m.none (eq-eqb d.parameters 0 e));
         there = there q d h;
         owned = λ i v j w. parameter_told q v.role (parameter_at i q v d j h ∙ within_shown d.first_parameter d.parameters i w);
-        all_owned = λ i v j e. within_told d.first_parameter d.parameters i (sym (parameter_at i q v d j h) ∙ ap (is_parameter_of q) e ∙ eq_eqb q q refl);
+        all_owned = λ i v j e. within_told d.first_parameter d.parameters i (sym (parameter_at i q v d j h) ∙ ap (is_parameter_of q) e ∙ eq-eqb q q refl);
         rises = λ o b lt j. rises o q b d lt j h;
         body = c.body;
         main_last = c.last;
@@ -297,7 +297,7 @@ module _ (r : Rules) (p : Program) (k : Checks r p) where
       exits_are x false true false false (not-true x.falls c.1) c.0 (not-true x.breaks b.1) (not-true x.continues a.1)
 
   body_fits_told : (n : ℕ) (d : Procedure) (c : Class) → d.body ≡ n → body_fits n (Some d) c ≡ true → body_exits_fit d.result (class_exits c) ≡ true
-  body_fits_told n d c e h = sym (ap (λ (b : Bool). cond b (body_exits_fit d.result (class_exits c)) true) (eq_eqb d.body n e)) ∙ h
+  body_fits_told n d c e h = sym (ap (λ (b : Bool). cond b (body_exits_fit d.result (class_exits c)) true) (eq-eqb d.body n e)) ∙ h
 
   pub well_typed : WellTyped r p
   unfolding below

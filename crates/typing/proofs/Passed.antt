@@ -1,6 +1,6 @@
 -- A program that is well formed and well typed passes every row.
 use Rattle.std.proofs.Common.{◌≡◌, ℕ, suc, ◌+◌, ◌<◌, ◌≤◌, Bool, true, false, cond, not, ◌&&◌, ◌||◌, eqb, ltb, leb, ◌⊎◌, List, length, get_or, Some, None, Option, sym, refl, ap, ◌∙◌, subst, ap₂, inl, inr, ⊎_elim, le_refl, arith}
-use Rattle.std.proofs.lemmas.Bool.{and_from, ltb-true, leb-true, le-leb, lt_ltb, eqb-true, eq_eqb, not_from_false, or_right, cases_Bool, both_ways, cases_eq, ne_eqb}
+use Rattle.std.proofs.lemmas.Bool.{and_from, ltb-true, leb-true, le-leb, lt-ltb, eqb-true, eq-eqb, not_from_false, or_right, cases_Bool, both_ways, cases_eq, ne_eqb}
 use Rattle.words.specs.declared.types.DataType.{DataType}
 use Rattle.levels.specs.Rules.{Rules}
 use Rattle.program.proofs.Statements.{statement_node}
@@ -34,11 +34,11 @@ use Rattle.typing.proofs.Forms.{parameter_told, within_told, within_shown}
 owner_shown : (p : Program) (u : Role) → Owned p u → owner_fits (length p.procedures) u ≡ true
 owner_shown p Global h = refl
 owner_shown p Input h = refl
-owner_shown p (Local q) h = lt_ltb q (length p.procedures) h
-owner_shown p (Parameter q) h = lt_ltb q (length p.procedures) h
+owner_shown p (Local q) h = lt-ltb q (length p.procedures) h
+owner_shown p (Parameter q) h = lt-ltb q (length p.procedures) h
 
 void_shown : (u : Option DataType) (l : ℕ) → (u ≡ None → l ≡ 0) → void_fits u l ≡ true
-void_shown None l h = eq_eqb l 0 (h refl)
+void_shown None l h = eq-eqb l 0 (h refl)
 void_shown (Some t) l h = refl
 
 absent_shown : {X : Type 0} (o : Option X) → o ≡ None → is_absent o ≡ true
@@ -54,7 +54,7 @@ same_shown false true h i = false_true (i refl)
 same_shown false false h i = refl
 
 parameter_shown : (q : ℕ) (u : Role) → u ≡ Parameter q → is_parameter_of q u ≡ true
-parameter_shown q u e = ap (is_parameter_of q) e ∙ eq_eqb q q refl
+parameter_shown q u e = ap (is_parameter_of q) e ∙ eq-eqb q q refl
 
 ends_shown : (u : Option DataType) (x : Exits) → Ends u x → body_exits_fit u x ≡ true
 ends_shown None x h = and_from (not x.breaks) (not x.continues) (not_from_false x.breaks h.0) (not_from_false x.continues h.1)
@@ -97,7 +97,7 @@ module _ (r : Rules) (p : Program) (w : WellFormed r p) (t : WellTyped r p) wher
       and_from _ _
       (and_from _ _
       (and_from _ _ (le-leb d.parameters 8 f.few) (le-leb (d.first_parameter + d.parameters) (length p.variables) f.there))
-      (or_shown (eqb d.parameters 0) _ (λ e. eq_eqb d.first_parameter 0 (f.none (eqb-true d.parameters 0 e)))))
+      (or_shown (eqb d.parameters 0) _ (λ e. eq-eqb d.first_parameter 0 (f.none (eqb-true d.parameters 0 e)))))
       (all_below_from (owned_at p.variables q d.first_parameter d.parameters) (length p.variables) (λ i lt. owned_passes q i d h lt))
 
   procedure_passes : (q : ℕ) (d : Procedure) → ProcedureIs p q d → ProcedureChecks r p q d
@@ -113,7 +113,7 @@ module _ (r : Rules) (p : Program) (w : WellFormed r p) (t : WellTyped r p) wher
         last = f.main_last;
         main = or_shown (eqb (q + 1) (length p.procedures)) _
             (λ e. let last : suc q ≡ length p.procedures = omega (arith, eqb-true (q + 1) (length p.procedures) e) in
-            and_from (is_absent d.result) (eqb d.parameters 0) (absent_shown d.result (f.main_void last)) (eq_eqb d.parameters 0 (f.main_bare last)));
+            and_from (is_absent d.result) (eqb d.parameters 0) (absent_shown d.result (f.main_void last)) (eq-eqb d.parameters 0 (f.main_bare last)));
       }
 
   -- ---- nodes
@@ -181,7 +181,7 @@ module _ (r : Rules) (p : Program) (w : WellFormed r p) (t : WellTyped r p) wher
   name_passes : (n : ℕ) → n < length p.nodes → (is_body p.procedures n || eqb (times_child n p.nodes) 1) ≡ true
   name_passes n lt =
       ⊎_elim (λ e. ap (λ (b : Bool). b || eqb (times_child n p.nodes) 1) e)
-      (λ e. ap (λ (b : Bool). b || eqb (times_child n p.nodes) 1) e ∙ eq_eqb (times_child n p.nodes) 1 (once n lt e))
+      (λ e. ap (λ (b : Bool). b || eqb (times_child n p.nodes) 1) e ∙ eq-eqb (times_child n p.nodes) 1 (once n lt e))
       (cases_Bool (is_body p.procedures n))
 
   pub checks : Checks r p

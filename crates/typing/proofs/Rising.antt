@@ -1,5 +1,5 @@
 -- Searches, tables and tests over rising numbers: one number further, and what a whole one says of each number.
-use Rattle.std.proofs.Common.{◌≡◌, ℕ, zero, suc, ◌+◌, ◌-◌, ◌*◌, ◌<◌, ◌≤◌, Bool, true, false, List, [], ◌∷◌, ◌++◌, length, get_or, drop, Some, None, Option, sym, refl, ap, ◌∙◌, subst, ⊎_elim, le_refl, le_of_suc-le-suc, not-suc-le-zero, suc-add, eq-or-lt_of_le, zero-add, mul-one, mul-add, add-one, arith, length_append, drop-drop}
+use Rattle.std.proofs.Common.{◌≡◌, ℕ, zero, suc, ◌+◌, ◌-◌, ◌*◌, ◌<◌, ◌≤◌, Bool, true, false, List, [], ◌∷◌, ◌++◌, length, get_or, drop, Some, None, Option, sym, refl, ap, ◌∙◌, subst, ⊎_elim, le_refl, le_of_suc-le-suc, not-suc-le-zero, suc-add, eq-or-lt_of_le, zero-add, mul-one, mul-add, add-one, arith, length-append, drop-drop}
 use native.Mathlib.Nat.{le_step}
 use lib.Seq.{get_or_at}
 use Rattle.std.proofs.lemmas.List.{get_or_append_left}
@@ -66,7 +66,7 @@ pub length_table : {X : Type 0} (f : List X → ℕ → X) (n : ℕ) → length 
 unfolding table
 length_table f zero = refl
 length_table f (suc n) =
-    length_append (table f n) (f (table f n) n ∷ []) ∙ ap (λ (k : ℕ). k + 1) (length_table f n) ∙ add-one n
+    length-append (table f n) (f (table f n) n ∷ []) ∙ ap (λ (k : ℕ). k + 1) (length_table f n) ∙ add-one n
 
 pub table_at : {X : Type 0} (f : List X → ℕ → X) (d : X) (k n : ℕ) → k < n → get_or (table f n) k d ≡ f (table f k) k
 unfolding table

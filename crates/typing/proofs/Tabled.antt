@@ -1,6 +1,6 @@
 -- The typed nodes of a program, and what is known of them where a node above is checked.
 use Rattle.std.proofs.Common.{◌≡◌, ℕ, ◌<◌, Bool, true, false, cond, ltb, List, length, get_or, Some, None, Option, sym, refl, ap, ◌∙◌, subst, arith}
-use Rattle.std.proofs.lemmas.Bool.{lt_ltb, ltb-true, cond_true}
+use Rattle.std.proofs.lemmas.Bool.{lt-ltb, ltb-true, cond-true}
 use Rattle.levels.specs.Rules.{Rules}
 use Rattle.program.specs.Program.{Program, at, no_node}
 use Rattle.program.specs.declared.records.Node.{Node}
@@ -30,7 +30,7 @@ pub at_item : {X : Type 0} (d : X) (xs : List X) (k : ℕ) (x : X) → at d xs k
 at_item d xs k x h = (at_cases (ltb k (length xs)) (get_or xs k d) x h).1
 
 pub at_there : {X : Type 0} (d : X) (xs : List X) (k : ℕ) → k < length xs → at d xs k ≡ Some (get_or xs k d)
-at_there d xs k lt = ap (λ (b : Bool). cond b (Some (get_or xs k d)) None) (lt_ltb k (length xs) lt)
+at_there d xs k lt = ap (λ (b : Bool). cond b (Some (get_or xs k d)) None) (lt-ltb k (length xs) lt)
 
 -- the procedure of node n
 abbrev pub home : Program → ℕ → ℕ

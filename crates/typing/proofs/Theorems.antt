@@ -1,6 +1,6 @@
 -- The theorems on acceptance: the rows decide it, and what it gives.
 use Rattle.std.proofs.Common.{◌≡◌, ℕ, zero, suc, ◌+◌, ◌*◌, ◌<◌, ◌≤◌, Bool, true, false, cond, eqb, ltb, ◌⊎◌, List, [], ◌∷◌, length, get_or, drop, is_ok, Some, None, Ok, Err, Option, Result, sym, refl, ap, ◌∙◌, subst, inl, inr, ⊎_elim, le_of_suc-le-suc, not-suc-le-zero, arith}
-use Rattle.std.proofs.lemmas.Bool.{and_parts, ltb-true, eq_eqb, cases_order}
+use Rattle.std.proofs.lemmas.Bool.{and_parts, ltb-true, eq-eqb, cases_order}
 use Rattle.words.specs.declared.types.DataType.{DataType}
 use Rattle.words.specs.declared.types.DataType.TheVariants.{Bool as Boolean}
 use Rattle.levels.specs.Rules.{Rules, Lawful}
@@ -184,7 +184,7 @@ counted : (m : ℕ) (ms : List ℕ) → Among m ms → 1 ≤ times_in m ms
 counted m [] c = absurd c
 counted m (n ∷ ms) c =
     ⊎_elim
-    (λ e. subst (λ (b : Bool). 1 ≤ cond b 1 0 + times_in m ms) (sym (eq_eqb n m (sym e))) (omega arith))
+    (λ e. subst (λ (b : Bool). 1 ≤ cond b 1 0 + times_in m ms) (sym (eq-eqb n m (sym e))) (omega arith))
     (λ k. omega (arith, counted m ms k)) c
 
 counted_at : (m n : ℕ) (xs : List Node) → n < length xs → Among m (children (get_or xs n no_node)) → 1 ≤ times_child m xs
