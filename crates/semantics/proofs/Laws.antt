@@ -1,4 +1,5 @@
 -- The laws of the operators and of what is put in.
+use Rattle.std.proofs.Math.Nat.{zero-add, suc-add}
 use Rattle.std.proofs.Common.{◌≡◌, ℕ, zero, suc, ◌+◌, Bool, true, false, cond, eqb, length, Some, None, unwrap_or, sym, refl, ap, ◌∙◌, true≢false}
 use lib.Signed.{quot_z, rem_z}
 use Rattle.std.proofs.lemmas.Bool.{eq-eqb}
@@ -37,8 +38,8 @@ settling_puts l (Plain w) k = by (eqb l 0)
 settling_puts l (Held w) k = refl
 
 put_more : (m n : ℕ) (c : Counts) → put_times n (put_times m c) ≡ put_times (m + n) c
-put_more zero n c = refl
-put_more (suc m) n c = put_more m n (one_put c)
+put_more zero n c = ap (λ k. put_times k c) (sym (zero-add n))
+put_more (suc m) n c = put_more m n (one_put c) ∙ ap (λ k. put_times k c) (sym (suc-add m n))
 
 -- an operator at level l, done once its operands are in, unless l is public
 done_once : (t : Bool) (k j : Kept) (c : Counts) → j.counts ≡ c → (cond t k (operated j)).counts ≡ cond t k.counts (one_op c)

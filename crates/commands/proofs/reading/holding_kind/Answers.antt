@@ -5,13 +5,13 @@ use Rattle.std.proofs.lemmas.Slice.Eq.{bytes_eq-Decides}
 use Rattle.commands.proofs.Names.{no_name}
 use Rattle.commands.proofs.reading.holding_kind.Goals as goal
 
-pub returns-in-default-from-utf8 : goal.returns-in-default-from-utf8
-returns-in-default-from-utf8 c = search (rules, bytes_eq-Decides)
+pub returns-in_default-from_utf8 : goal.returns-in_default-from_utf8
+returns-in_default-from_utf8 c = search (rules, bytes_eq-Decides)
 
-pub returns-in-default-from-utf8·2 : goal.returns-in-default-from-utf8·2
+pub returns-in_default-from_utf8-2 : goal.returns-in_default-from_utf8-2
 unfolding encode
-returns-in-default-from-utf8·2 c =
-    let never = c.in-default-from-utf8.ensures.cases.0 in
+returns-in_default-from_utf8-2 c =
+    let never = c.in_default-from_utf8.in-Err-own.ensures.cases.0 in
     let isOpen = no_name c.in-Some.name.now (codes "open") never refl refl in
     let isSplit = no_name c.in-Some.name.now (codes "split") never refl refl in
     search rules

@@ -17,13 +17,13 @@ loop-piece-smaller c = rest_shorter (first (goal.at.loop-piece-smaller c).After-
 pub loop-piece-preserved : goal.loop-piece-preserved
 loop-piece-preserved c =
     let cut = first (goal.at.loop-piece-preserved c).After-cut in
-    (field_none cut c.if-not-is-empty.ensures ∙ c.loop-piece.invariant.0, omega (arith, rest_shorter cut))
+    (field_none cut c.if-not-is_empty.ensures ∙ c.loop-piece.invariant.0, omega (arith, rest_shorter cut))
 
-pub returns-then-not-is-empty : goal.returns-then-not-is-empty
-returns-then-not-is-empty c =
-    let cut = first (goal.at.returns-then-not-is-empty c).After-cut in
+pub returns-then-not-is_empty : goal.returns-then-not-is_empty
+returns-then-not-is_empty c =
+    let cut = first (goal.at.returns-then-not-is_empty c).After-cut in
     record {
-      steps = sym c.loop-piece.invariant.0 ∙ field_first cut c.if-not-is-empty.ensures;
+      steps = sym c.loop-piece.invariant.0 ∙ field_first cut c.if-not-is_empty.ensures;
       goes = firm ((tt, tt, omega (arith, rest_shorter cut))) (λ h. search rules);
     }
 

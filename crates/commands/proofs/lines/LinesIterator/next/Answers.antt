@@ -9,16 +9,16 @@ use Rattle.commands.proofs.lines.LinesIterator.next.Goals.{After-cut}
 use Rattle.std.proofs.iter.Next.{firm}
 
 first : (c : After-cut) → Cut NewLine c.args.self.now.rest.now c.cut.result.0.now c.cut.result.1.now
-first c = record { some = c.if-is-empty.ensures; front = c.cut.ensures.front; back = c.cut.ensures.back }
+first c = record { some = c.if-is_empty.ensures; front = c.cut.ensures.front; back = c.cut.ensures.back }
 
-pub returns-then-is-empty : goal.returns-then-is-empty
-returns-then-is-empty c = record {
-  steps = ap (λ bs. numbered c.args.self.now.count (lines bs)) (nil_from_length _ (true-eqb _ 0 c.if-is-empty.ensures));
+pub returns-then-is_empty : goal.returns-then-is_empty
+returns-then-is_empty c = record {
+  steps = ap (λ bs. numbered c.args.self.now.count (lines bs)) (nil_from_length _ (true-eqb _ 0 c.if-is_empty.ensures));
   goes = firm (tt) (λ h. search rules);
 }
 
-pub invariant-of-self : goal.invariant-of-self
-invariant-of-self c = (omega (arith, rest_shorter (first (goal.at.invariant-of-self c).After-cut), c.args.self.now.fits), tt)
+pub invariant_of-self : goal.invariant_of-self
+invariant_of-self c = record { fits = omega (arith, rest_shorter (first (goal.at.invariant_of-self c).After-cut), c.args.self.now.fits) }
 
 pub returns : goal.returns
 returns c = let cut = first (goal.at.returns c).After-cut in record {
