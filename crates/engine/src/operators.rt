@@ -1,7 +1,7 @@
 // The operators on figures: on plain words at level 0, and the holding's elsewhere.
 ghost use Rattle.std.specs.Prelude.{◌≡◌};
 ghost use Rattle.words.specs.Operators.{minus_word, not_word};
-ghost use Rattle.semantics.specs.State.{plain_word, word_in, result, working, operated, putting, plain_result, held_result};
+ghost use Rattle.semantics.specs.State.{plain_word, word_in, result as result_at, working, operated, putting, plain_result, held_result};
 ghost use Rattle.semantics.specs.declared.values.Value.TheVariants.{Held};
 ghost use Rattle.engine.specs.View.{value_of, kept_of};
 
@@ -14,7 +14,7 @@ use words::operators;
 
 // The word of an operator on plain words, or none for a quotient or a remainder by zero.
 pub(crate) fn combine_words(operator: Operator, a: u32, b: u32) -> Option<u32>
-    ensures* { λ r. ⌜ r ≡ plain_result operator a b ⌝ }
+    ensures { result ≡ plain_result operator a b }
 {
     match operator {
         Operator::Arithmetic(operator, data_type) => operator.apply(data_type, a, b),
@@ -26,8 +26,8 @@ pub(crate) fn combine_words(operator: Operator, a: u32, b: u32) -> Option<u32>
 
 impl<H: Holding + Drop> Store<H> {
     pub(crate) fn minus(&mut self, level: u32, figure: Value<Shares>) -> Value<Shares>
-        ensures* value { λ r. ⌜ value_of stands r ≡ result level (minus_word (plain_word (value_of stands figure))) (minus_word (word_in (value_of stands figure))) ⌝ }
-        ensures* kept { λ _. ⌜ kept_of stands counts self.new ≡ working level (value_of stands figure) (kept_of stands counts self.old) ⌝ }
+        ensures value { value_of stands result ≡ result_at level (minus_word (plain_word (value_of stands figure))) (minus_word (word_in (value_of stands figure))) }
+        ensures kept { kept_of stands counts self.new ≡ working level (value_of stands figure) (kept_of stands counts self.old) }
     {
         match level {
             0 => Value::Plain(operators::minus(plain_word(figure))),
@@ -39,8 +39,8 @@ impl<H: Holding + Drop> Store<H> {
     }
 
     pub(crate) fn not(&mut self, level: u32, figure: Value<Shares>) -> Value<Shares>
-        ensures* value { λ r. ⌜ value_of stands r ≡ result level (not_word (plain_word (value_of stands figure))) (not_word (word_in (value_of stands figure))) ⌝ }
-        ensures* kept { λ _. ⌜ kept_of stands counts self.new ≡ working level (value_of stands figure) (kept_of stands counts self.old) ⌝ }
+        ensures value { value_of stands result ≡ result_at level (not_word (plain_word (value_of stands figure))) (not_word (word_in (value_of stands figure))) }
+        ensures kept { kept_of stands counts self.new ≡ working level (value_of stands figure) (kept_of stands counts self.old) }
     {
         match level {
             0 => Value::Plain(operators::not(plain_word(figure))),
@@ -53,8 +53,8 @@ impl<H: Holding + Drop> Store<H> {
 
     // The holding's operator on two figures that it holds.
     fn combine_held(&mut self, operator: Operator, x: Shares, y: Shares) -> Shares
-        ensures* stands { λ r. ⌜ stands r ≡ held_result operator (stands x) (stands y) ⌝ }
-        ensures* kept { λ _. ⌜ kept_of stands counts self.new ≡ operated (kept_of stands counts self.old) ⌝ }
+        ensures stands { stands result ≡ held_result operator (stands x) (stands y) }
+        ensures kept { kept_of stands counts self.new ≡ operated (kept_of stands counts self.old) }
     {
         match operator {
             Operator::Arithmetic(operator, data_type) => self
@@ -75,8 +75,8 @@ impl<H: Holding + Drop> Store<H> {
         x: Value<Shares>,
         y: Value<Shares>,
     ) -> Value<Shares>
-        ensures* value { λ r. ⌜ value_of stands r ≡ Held (held_result operator (word_in (value_of stands x)) (word_in (value_of stands y))) ⌝ }
-        ensures* kept { λ _. ⌜ kept_of stands counts self.new ≡ operated (putting (value_of stands y) (putting (value_of stands x) (kept_of stands counts self.old))) ⌝ }
+        ensures value { value_of stands result ≡ Held (held_result operator (word_in (value_of stands x)) (word_in (value_of stands y))) }
+        ensures kept { kept_of stands counts self.new ≡ operated (putting (value_of stands y) (putting (value_of stands x) (kept_of stands counts self.old))) }
     {
         let first = self.hold(x);
         let second = self.hold(y);

@@ -3,12 +3,12 @@ use Rattle.std.proofs.Common.{sym, ◌∙◌, rules}
 use Rattle.checker.proofs.Further.{arguments_end, argument_missing, argument_broken, argument_fitting}
 use Rattle.checker.proofs.arguments.arguments_fit.Goals as goal
 
-pub returns-in-default : goal.returns-in-default
-returns-in-default g c =
-    sym (c.loop-i.invariant ∙ argument_missing _ _ _ _ _ _ _ c.loop-i-test.true c.in-default.ensures)
+pub returns-in_default : goal.returns-in_default
+returns-in_default g c =
+    sym (c.loop-i.invariant ∙ argument_missing _ _ _ _ _ _ _ c.loop-i-test.true c.in_default.ensures)
 
-pub returns-then-not-argument-fits : goal.returns-then-not-argument-fits
-returns-then-not-argument-fits g c =
+pub returns-then-not-argument_fits : goal.returns-then-not-argument_fits
+returns-then-not-argument_fits g c =
     sym (c.loop-i.invariant ∙ argument_broken _ _ _ _ _ _ _ c.loop-i-test.true _ _ c.in-Some.ensures (search rules))
 
 pub loop-i-preserved : goal.loop-i-preserved

@@ -12,19 +12,19 @@ use Rattle.checker.proofs.names.check_counts.Goals as goal
 pub loop-place-init : goal.loop-place-init
 loop-place-init c = (first_none _, procedure_none _)
 
-pub next-procedure-procedure-requires : goal.next-procedure-procedure-requires
-next-procedure-procedure-requires c =
+pub next_procedure-procedure-requires : goal.next_procedure-procedure-requires
+next_procedure-procedure-requires c =
     omega (arith, c.loop-place.invariant.1, procedure_below (vec_items c.args.tables.now.procedures) c.loop-place.place)
 
-pub returns-then-not-is-well-named : goal.returns-then-not-is-well-named
-returns-then-not-is-well-named c =
+pub returns-then-not-is_well_named : goal.returns-then-not-is_well_named
+returns-then-not-is_well_named c =
     let ds = vec_items c.args.tables.now.procedures in
     let ms = vec_items c.args.tables.now.names in
     let k = c.loop-place.place in
     let within : k < length ms = omega (arith, c.args.tables.now.names.ok.0) in
     let here =
     ap (λ (q : ℕ). unless (is_body_of ds q k || is_once (get_or ms k Never)) (BadNaming k)) (sym c.loop-place.invariant.1)
-    ∙ ap (λ (b : Bool). unless b (BadNaming k)) (sym c.is-well-named.ensures ∙ c.if-not-is-well-named.true) in
+    ∙ ap (λ (b : Bool). unless b (BadNaming k)) (sym c.is_well_named.ensures ∙ c.if-not-is_well_named.true) in
     sym (ap (checked tt) (first_found (count_fault ds ms) (BadNaming k) k (length ms) c.loop-place.invariant.0 here within))
 
 pub loop-place-preserved : goal.loop-place-preserved
@@ -34,7 +34,7 @@ loop-place-preserved c =
     let k = c.loop-place.place in
     let here =
     ap (λ (q : ℕ). unless (is_body_of ds q k || is_once (get_or ms k Never)) (BadNaming k)) (sym c.loop-place.invariant.1)
-    ∙ ap (λ (b : Bool). unless b (BadNaming k)) (sym c.is-well-named.ensures ∙ c.if-not-is-well-named.false) in (
+    ∙ ap (λ (b : Bool). unless b (BadNaming k)) (sym c.is_well_named.ensures ∙ c.if-not-is_well_named.false) in (
       first_more (count_fault ds ms) k c.loop-place.invariant.0 here,
-      c.next-procedure-procedure.ensures ∙ procedure_more ds k _ c.loop-place.invariant.1,
+      c.next_procedure-procedure.ensures ∙ procedure_more ds k _ c.loop-place.invariant.1,
     )

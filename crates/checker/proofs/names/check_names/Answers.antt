@@ -7,9 +7,9 @@ use Rattle.checker.specs.Records.{checked}
 use Rattle.checker.proofs.Marks.{length_names, counts_say}
 use Rattle.checker.proofs.names.check_names.Goals as goal
 
-pub check-counts-requires : goal.check-counts-requires
-check-counts-requires c =
-    omega (arith, ap length (c.mark-names.ensures.items ∙ ap names_of c.deref.ensures.value), length_names (vec_items c.args.tables.now.nodes))
+pub check_counts-requires : goal.check_counts-requires
+check_counts-requires c =
+    omega (arith, ap length (c.mark_names.ensures.items ∙ ap names_of c.deref.ensures.value), length_names (vec_items c.args.tables.now.nodes))
 
 pub returns : goal.returns
 returns c =
@@ -17,8 +17,8 @@ returns c =
     let ns = vec_items c.args.tables.now.nodes in
     record {
       value =
-          c.check-counts.ensures
-          ∙ ap (λ (ms : List Naming). checked tt (first (count_fault ds ms) (length ms))) (c.mark-names.ensures.items ∙ ap names_of c.deref.ensures.value)
+          c.check_counts.ensures
+          ∙ ap (λ (ms : List Naming). checked tt (first (count_fault ds ms) (length ms))) (c.mark_names.ensures.items ∙ ap names_of c.deref.ensures.value)
           ∙ ap (checked tt) (counts_say ds ns);
       variables = refl;
       procedures = refl;

@@ -7,8 +7,8 @@ use Rattle.checker.proofs.names.mark_names.Goals as goal
 
 pub loop-node-preserved : goal.loop-node-preserved
 loop-node-preserved c = (
-  c.mark-children.ensures.items ∙ marked_more _ _ c.loop-node.node-index _ _ c.loop-node-test.true c.loop-node.invariant.0,
-  c.mark-children.ensures.capacity ∙ c.loop-node.invariant.1,
+  c.mark_children.ensures.items ∙ marked_more _ _ c.loop-node.node-index _ _ c.loop-node-test.true c.loop-node.invariant.0,
+  c.mark_children.ensures.capacity ∙ c.loop-node.invariant.1,
 )
 
 pub returns : goal.returns
@@ -17,5 +17,5 @@ returns c =
       items =
           c.loop-node.invariant.0
           ∙ ap (fold marked_by (replicate (length c.args.nodes.now) Never)) (take_all c.loop-node.node-index c.args.nodes.now c.loop-node-test.false);
-      capacity = c.loop-node.invariant.1 ∙ c.name-none.ensures.capacity;
+      capacity = c.loop-node.invariant.1 ∙ c.name_none.ensures.capacity;
     }

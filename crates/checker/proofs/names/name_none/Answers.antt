@@ -9,14 +9,14 @@ use Rattle.checker.proofs.names.name_none.Goals as goal
 pub loop-init : goal.loop-init
 loop-init c = (c.requires.empty, refl)
 
-pub push-reserved-requires : goal.push-reserved-requires
-push-reserved-requires c =
+pub push_reserved-requires : goal.push_reserved-requires
+push_reserved-requires c =
     omega (arith, c.loop.names.ok.0, ap length c.loop.invariant.0, length-replicate c.loop.counter Never)
 
 pub loop-preserved : goal.loop-preserved
 loop-preserved c = (
-  c.push-reserved.ensures.items ∙ ap (λ (ms : List Naming). ms ++ Never ∷ []) c.loop.invariant.0 ∙ never_more c.loop.counter,
-  c.push-reserved.ensures.capacity ∙ c.loop.invariant.1,
+  c.push_reserved.ensures.items ∙ ap (λ (ms : List Naming). ms ++ Never ∷ []) c.loop.invariant.0 ∙ never_more c.loop.counter,
+  c.push_reserved.ensures.capacity ∙ c.loop.invariant.1,
 )
 
 pub returns : goal.returns

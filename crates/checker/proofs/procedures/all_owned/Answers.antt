@@ -8,8 +8,8 @@ pub loop-place-init : goal.loop-place-init
 loop-place-init c = all_below_none _
 
 pub loop-place-preserved : goal.loop-place-preserved
-loop-place-preserved c = all_below_more _ _ c.loop-place.invariant (sym c.is-owned.ensures ∙ c.if-not-is-owned.false)
+loop-place-preserved c = all_below_more _ _ c.loop-place.invariant (sym c.is_owned.ensures ∙ c.if-not-is_owned.false)
 
-pub returns-then-not-is-owned : goal.returns-then-not-is-owned
-returns-then-not-is-owned c =
-    sym (all_below_broken (owned_at c.args.variables.now c.args.procedure c.args.first c.args.count) _ _ c.loop-place.invariant (sym c.is-owned.ensures ∙ c.if-not-is-owned.true) c.loop-place-test.true)
+pub returns-then-not-is_owned : goal.returns-then-not-is_owned
+returns-then-not-is_owned c =
+    sym (all_below_broken (owned_at c.args.variables.now c.args.procedure c.args.first c.args.count) _ _ c.loop-place.invariant (sym c.is_owned.ensures ∙ c.if-not-is_owned.true) c.loop-place-test.true)

@@ -13,16 +13,16 @@ loop-place-init g c = (refl, first_none _, c.requires.empty ∙ sym (table_none 
 
 pub unreachable-requires : goal.unreachable-requires
 unreachable-requires g c =
-    omega (arith, c.in-default.ensures, simp length-drop at (ap length c.loop-place.invariant.0))
+    omega (arith, c.in_default.ensures, simp length-drop at (ap length c.loop-place.invariant.0))
 
-pub push-reserved-requires : goal.push-reserved-requires
-push-reserved-requires g c =
+pub push_reserved-requires : goal.push_reserved-requires
+push_reserved-requires g c =
     let tabled = length_table (λ _ i. known no_procedure (procedure_record c.args.part.now i)) c.loop-place.place in
     omega (arith, c.loop-place.procedures.ok.0, ap length c.loop-place.invariant.2)
 
-pub returns-in-err-procedure : goal.returns-in-err-procedure
-returns-in-err-procedure g c =
-    let p = err_from_is_err_and c.from-residual.result c.from-residual.ensures.1 in
+pub returns-in_err-procedure : goal.returns-in_err-procedure
+returns-in_err-procedure g c =
+    let p = err_from_is_err_and c.from_residual.result c.from_residual.ensures.1 in
     let here =
     procedure_fault_taken c.args.part.now _ c.loop-place.place _ c.in-Some.ensures.1 c.loop-place.invariant.0
     g.L.Levels.rules c.args.file.now c.args.layout.nodes c.args.layout.procedures c.args.variables.now _ (c.deref.ensures.value ∙ c.loop-place.invariant.2) in
@@ -30,7 +30,7 @@ returns-in-err-procedure g c =
     record {
       value =
           stops tt (procedure_fault g.L.Levels.rules c.args.file.now c.args.layout.nodes c.args.layout.procedures c.args.variables.now c.args.part.now) c.loop-place.place c.args.layout.procedures _ _ _
-          c.loop-place.invariant.1 c.loop-place-test.true here c.in-err-procedure.ensures;
+          c.loop-place.invariant.1 c.loop-place-test.true here c.in_err-procedure.ensures;
       items = tt;
       capacity = c.loop-place.invariant.3;
     }
@@ -43,8 +43,8 @@ loop-place-preserved g c =
     let it = procedure_taken c.args.part.now _ c.loop-place.place _ c.in-Some.ensures.1 c.loop-place.invariant.0 in (
       c.in-Some.ensures.2 ∙ ap (drop 12) c.loop-place.invariant.0 ∙ drop_record 12 c.loop-place.place c.args.part.now,
       goes_on (procedure_fault g.L.Levels.rules c.args.file.now c.args.layout.nodes c.args.layout.procedures c.args.variables.now c.args.part.now) c.loop-place.place _ _ _ c.loop-place.invariant.1 here
-          c.in-ok-procedure.ensures,
-      c.push-reserved.ensures.items
-          ∙ grows (λ _ i. known no_procedure (procedure_record c.args.part.now i)) c.loop-place.place _ _ _ _ c.loop-place.invariant.2 (ap (known no_procedure) it) c.in-ok-procedure.ensures,
-      c.push-reserved.ensures.capacity ∙ c.loop-place.invariant.3,
+          c.in_ok-procedure.ensures,
+      c.push_reserved.ensures.items
+          ∙ grows (λ _ i. known no_procedure (procedure_record c.args.part.now i)) c.loop-place.place _ _ _ _ c.loop-place.invariant.2 (ap (known no_procedure) it) c.in_ok-procedure.ensures,
+      c.push_reserved.ensures.capacity ∙ c.loop-place.invariant.3,
     )

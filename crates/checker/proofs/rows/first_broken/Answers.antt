@@ -6,18 +6,18 @@ use Rattle.tables.specs.View.{view}
 use Rattle.checker.proofs.Further.{rows_end, row_broken, row_passed}
 use Rattle.checker.proofs.rows.first_broken.Goals as goal
 
-pub returns-then-not-row-passes : goal.returns-then-not-row-passes
-returns-then-not-row-passes g c =
+pub returns-then-not-row_passes : goal.returns-then-not-row_passes
+returns-then-not-row_passes g c =
     let broken =
     row_broken g.L.Levels.rules (view c.args.tables.now) c.args.place c.args.current c.args.node node_rows c.loop-row.row-index Child
-    c.loop-row-test.true (sym c.row-passes.ensures ∙ c.if-not-row-passes.true) in
+    c.loop-row-test.true (sym c.row_passes.ensures ∙ c.if-not-row_passes.true) in
     ap Some c.refusal_of.ensures ∙ sym (c.loop-row.invariant ∙ broken)
 
 pub loop-row-preserved : goal.loop-row-preserved
 loop-row-preserved g c =
     c.loop-row.invariant
     ∙ row_passed g.L.Levels.rules (view c.args.tables.now) c.args.place c.args.current c.args.node node_rows c.loop-row.row-index Child
-    c.loop-row-test.true (sym c.row-passes.ensures ∙ c.if-not-row-passes.false)
+    c.loop-row-test.true (sym c.row_passes.ensures ∙ c.if-not-row_passes.false)
 
 pub returns : goal.returns
 returns g c =

@@ -13,22 +13,22 @@ loop-place-init g c = (refl, first_none _, c.requires.empty ∙ sym (table_none 
 
 pub unreachable-requires : goal.unreachable-requires
 unreachable-requires g c =
-    omega (arith, c.in-default.ensures, simp length-drop at (ap length c.loop-place.invariant.0))
+    omega (arith, c.in_default.ensures, simp length-drop at (ap length c.loop-place.invariant.0))
 
-pub push-reserved-requires : goal.push-reserved-requires
-push-reserved-requires g c =
+pub push_reserved-requires : goal.push_reserved-requires
+push_reserved-requires g c =
     let tabled = length_table (λ _ i. known no_variable (variable_record c.args.part.now i)) c.loop-place.place in
     omega (arith, c.loop-place.variables.ok.0, ap length c.loop-place.invariant.2)
 
-pub returns-in-err-check-variable : goal.returns-in-err-check-variable
-returns-in-err-check-variable g c =
-    let p = err_from_is_err_and c.from-residual.result c.from-residual.ensures.1 in
+pub returns-in_err-check_variable : goal.returns-in_err-check_variable
+returns-in_err-check_variable g c =
+    let p = err_from_is_err_and c.from_residual.result c.from_residual.ensures.1 in
     let here = variable_fault_taken c.args.part.now _ c.loop-place.place _ c.in-Some.ensures.1 c.loop-place.invariant.0 g.L.Levels.rules c.args.procedures in
     rw (p.1, p.2)
     record {
       value =
           stops tt (variable_fault g.L.Levels.rules c.args.procedures c.args.part.now) c.loop-place.place c.args.count _ _ _
-          c.loop-place.invariant.1 c.loop-place-test.true here c.in-err-check-variable.ensures;
+          c.loop-place.invariant.1 c.loop-place-test.true here c.in_err-check_variable.ensures;
       items = tt;
       capacity = c.loop-place.invariant.3;
     }
@@ -39,8 +39,8 @@ loop-place-preserved g c =
     let it = variable_taken c.args.part.now _ c.loop-place.place _ c.in-Some.ensures.1 c.loop-place.invariant.0 in (
       c.in-Some.ensures.2 ∙ ap (drop 8) c.loop-place.invariant.0 ∙ drop_record 8 c.loop-place.place c.args.part.now,
       goes_on (variable_fault g.L.Levels.rules c.args.procedures c.args.part.now) c.loop-place.place _ _ _ c.loop-place.invariant.1 here
-          c.in-ok-check-variable.ensures,
-      c.push-reserved.ensures.items
-          ∙ grows (λ _ i. known no_variable (variable_record c.args.part.now i)) c.loop-place.place _ _ _ _ c.loop-place.invariant.2 (ap (known no_variable) it) c.in-ok-check-variable.ensures,
-      c.push-reserved.ensures.capacity ∙ c.loop-place.invariant.3,
+          c.in_ok-check_variable.ensures,
+      c.push_reserved.ensures.items
+          ∙ grows (λ _ i. known no_variable (variable_record c.args.part.now i)) c.loop-place.place _ _ _ _ c.loop-place.invariant.2 (ap (known no_variable) it) c.in_ok-check_variable.ensures,
+      c.push_reserved.ensures.capacity ∙ c.loop-place.invariant.3,
     )

@@ -11,7 +11,7 @@ returns-in_default-from_utf8 c = search (rules, bytes_eq-Decides)
 pub returns-in_default-from_utf8-2 : goal.returns-in_default-from_utf8-2
 unfolding encode
 returns-in_default-from_utf8-2 c =
-    let never = c.in_default-from_utf8.in-Err-own.ensures.cases.0 in
+    let never = c.in_default-from_utf8.in-Err-own.ensures.0.0 in
     let isOpen = no_name c.in-Some.name.now (codes "open") never refl refl in
     let isSplit = no_name c.in-Some.name.now (codes "split") never refl refl in
     search rules

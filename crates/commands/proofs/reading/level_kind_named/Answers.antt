@@ -11,7 +11,7 @@ returns-in_default c = search (rules, bytes_eq-Decides)
 pub returns-in_default-2 : goal.returns-in_default-2
 unfolding encode
 returns-in_default-2 c =
-    let never = c.in_default.in-Err-own.ensures.cases.0 in
+    let never = c.in_default.in-Err-own.ensures.0.0 in
     let two = no_name c.args.name.now (codes "two") never refl refl in
     let members = no_name c.args.name.now (codes "members") never refl refl in
     search rules

@@ -6,8 +6,8 @@ use Rattle.engine.specs.Standing.{entries, Popped}
 use Rattle.engine.proofs.Stacks.{popped, fits_popped, next_popped}
 use Rattle.engine.proofs.control.Control.pop.Goals as goal
 
-pub invariant-of-self : goal.invariant-of-self
-invariant-of-self c =
+pub invariant_of-self : goal.invariant_of-self
+invariant_of-self c =
     let s = c.args.self.now in
     let e = view s.tables in
     let items = c.pop.new.self.items in

@@ -8,8 +8,8 @@ returns-in-0 c =
     let none : length items ≡ 0 = search rules in
     no_top items none
 
-pub returns-in-default : goal.returns-in-default
-returns-in-default c =
+pub returns-in_default : goal.returns-in_default
+returns-in_default c =
     let stack = c.args.self.now.stack in
     let some : 0 < c.len.result = search rules in
     top_is stack.items c.len.result c.index.result.now (sym stack.ok.0 ∙ sym c.len.ensures) some c.index.ensures

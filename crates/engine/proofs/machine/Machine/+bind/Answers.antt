@@ -18,8 +18,8 @@ bind-call-requires g t c κs within =
     let inside : in_call (entries p) ≡ true = passed_in_call c.in-Passed.figure (entries s) (entries p) h c.requires in
     search (rules, within)
 
-pub overflow-add-result : goal.overflow-add-result
-overflow-add-result g t c =
+pub overflow_add-result : goal.overflow_add-result
+overflow_add-result g t c =
     let s = c.args.self.now.control in
     let p = c.pop.new.self in
     let h = c.in-Some.ensures.entries ∙ ap (λ (x : Entry). x ∷ entries p) c.in-Passed.is in
@@ -33,7 +33,7 @@ unreachable-requires g t c =
     let p = c.pop.new.self in
     let h = c.in-Some.ensures.entries ∙ ap (λ (x : Entry). x ∷ entries p) c.in-Frame.is in
     let (n, q, e) = framed_in_call c.in-Frame.frame (entries s) (entries p) h c.requires in
-    c.in-default.not-Calling n q e
+    c.in_default.not-Calling n q e
 
 pub unreachable-requires-in-None : goal.unreachable-requires-in-None
 unreachable-requires-in-None g t c = none_in_call (entries c.args.self.now.control) c.in-None.ensures.entries.0 c.requires
@@ -48,12 +48,12 @@ returns-in-Passed g t c =
     let call = c.bind-call.result in
     let top = c.in-Some.ensures.entries ∙ ap (λ (x : Entry). x ∷ entries p) c.in-Passed.is in
     let same = c.bind-call.ensures.tables ∙ c.pop.ensures.tables in
-    let more = bound_one h.stands (view s.tables) (view p.tables) (view b.control.tables) call.procedure call.parameter c.in-Passed.figure (entries s) (entries p) (kept h.stands h.counts m) (kept h.stands h.counts b) (kept h.stands h.counts c.set-parameter.new.self) (ap view c.pop.ensures.tables) (ap view same) top c.bind-call.ensures.parameter c.bind-call.ensures.kept c.set-parameter.ensures.kept in
+    let more = bound_one h.stands (view s.tables) (view p.tables) (view b.control.tables) call.procedure call.parameter c.in-Passed.figure (entries s) (entries p) (kept h.stands h.counts m) (kept h.stands h.counts b) (kept h.stands h.counts c.set_parameter.new.self) (ap view c.pop.ensures.tables) (ap view same) top c.bind-call.ensures.parameter c.bind-call.ensures.kept c.set_parameter.ensures.kept in
     let calls = passed_call c.in-Passed.figure (entries s) (entries p) top in
     record {
-      tables = ap (λ (x : Control). x.tables) c.set-parameter.ensures.control ∙ same;
-      sheet = c.set-parameter.ensures.sheet ∙ c.bind-call.ensures.sheet;
-      entries = ap entries c.set-parameter.ensures.control ∙ c.bind-call.ensures.entries ∙ sym calls.1;
+      tables = ap (λ (x : Control). x.tables) c.set_parameter.ensures.control ∙ same;
+      sheet = c.set_parameter.ensures.sheet ∙ c.bind-call.ensures.sheet;
+      entries = ap entries c.set_parameter.ensures.control ∙ c.bind-call.ensures.entries ∙ sym calls.1;
       call = calls.0 ∙ c.bind-call.ensures.call;
       parameter = more.0;
       small = omega (arith, c.bind-call.ensures.small, ap length top);

@@ -16,10 +16,10 @@ use Rattle.engine.proofs.machine.Machine.enter.Goals as goal
 pub push-requires : goal.push-requires
 push-requires g c =
     let s = c.args.self.now.control in
-    let q = c.set-parameter.new.self.control in
+    let q = c.set_parameter.new.self.control in
     let call = c.bind-call.result in
-    let same = ap (λ (x : Control). x.tables) c.set-parameter.ensures.control ∙ c.bind-call.ensures.tables in
-    let rest = ap entries c.set-parameter.ensures.control ∙ c.bind-call.ensures.entries in
+    let same = ap (λ (x : Control). x.tables) c.set_parameter.ensures.control ∙ c.bind-call.ensures.tables in
+    let rest = ap entries c.set_parameter.ensures.control ∙ c.bind-call.ensures.entries in
     let fits = enter_fits (view s.tables) (view q.tables) call.node call.procedure c.enter-body.result (entries s) (entries q) (ap view same) c.requires c.bind-call.ensures.call rest c.enter-body.ensures.answer s.fits q.fits in
     record { fits = fits.0; depth = fits.1 }
 
@@ -29,18 +29,18 @@ returns g c =
     let m = c.args.self.now in
     let s = m.control in
     let b = c.bind-call.new.self in
-    let q = c.set-parameter.new.self in
+    let q = c.set_parameter.new.self in
     let p = c.push.new.self in
     let call = c.bind-call.result in
     let e = view s.tables in
-    let same = ap (λ (x : Control). x.tables) c.set-parameter.ensures.control ∙ c.bind-call.ensures.tables in
-    let rest = ap entries c.set-parameter.ensures.control ∙ c.bind-call.ensures.entries in
+    let same = ap (λ (x : Control). x.tables) c.set_parameter.ensures.control ∙ c.bind-call.ensures.tables in
+    let rest = ap entries c.set_parameter.ensures.control ∙ c.bind-call.ensures.entries in
     let body = c.enter-body.ensures.answer ∙ ap (λ (z : Environment). (procedure z call.procedure).body) (ap view same) in
     let j = kept_of h.stands h.counts c.enter-body.new.self in
-    let inside = entered_by h.stands e (view b.control.tables) (view q.control.tables) call.procedure call.parameter c.args.figure (entries s) (kept h.stands h.counts m) (kept h.stands h.counts b) (kept h.stands h.counts q) j (ap view c.bind-call.ensures.tables) (ap view same) c.bind-call.ensures.parameter c.bind-call.ensures.kept c.set-parameter.ensures.kept c.enter-body.ensures.kept in
+    let inside = entered_by h.stands e (view b.control.tables) (view q.control.tables) call.procedure call.parameter c.args.figure (entries s) (kept h.stands h.counts m) (kept h.stands h.counts b) (kept h.stands h.counts q) j (ap view c.bind-call.ensures.tables) (ap view same) c.bind-call.ensures.parameter c.bind-call.ensures.kept c.set_parameter.ensures.kept c.enter-body.ensures.kept in
     record {
       tables = c.push.ensures.tables ∙ same;
       stands =
-          ap (λ (x : Sheet). config_of p.next (frames_of h.stands [] (entries p)) (shown_of x) j) (c.set-parameter.ensures.sheet ∙ c.bind-call.ensures.sheet)
+          ap (λ (x : Sheet). config_of p.next (frames_of h.stands [] (entries p)) (shown_of x) j) (c.set_parameter.ensures.sheet ∙ c.bind-call.ensures.sheet)
           ∙ enters h.stands e p.next c.args.figure call.node call.procedure (entries s) (entries p) (shown h.stands h.counts m) (kept h.stands h.counts m) j c.requires c.bind-call.ensures.call (c.push.ensures.next ∙ ap Begin body) (c.push.ensures.entries ∙ ap (λ es. Framed (Running call.node) ∷ es) rest) inside;
     }

@@ -7,7 +7,7 @@ pub loop-i-preserved : goal.loop-i-preserved
 loop-i-preserved g c =
     let h = g.H.Holding in
     let vs = c.args.variables.now in
-    cleared_more c.args.number c.loop-i.i vs _ (kept_of h.stands h.counts c.loop-i.self) _ c.loop-i-test.true c.clear-local.ensures ∙ c.loop-i.invariant
+    cleared_more c.args.number c.loop-i.i vs _ (kept_of h.stands h.counts c.loop-i.self) _ c.loop-i-test.true c.clear_local.ensures ∙ c.loop-i.invariant
 
 pub returns : goal.returns
 returns g c =
