@@ -61,7 +61,7 @@ impl<H: Holding + Drop> Store<H> {
     // The definition of a local sets its cell to 0.
     fn define(&mut self, tables: &Tables, variable: u16) -> Move
         ensures answer { result ≡ Over Falls }
-        ensures kept { kept_of stands counts self.new ≡ stored variable (level_at (view tables.now) variable) (Plain 0) (kept_of stands counts self.old) }
+        ensures kept { kept_of H.stands H.counts self.new ≡ stored variable (level_at (view tables.now) variable) (Plain 0) (kept_of H.stands H.counts self.old) }
     {
         let level = tables.variable_level(variable as usize);
         self.set(variable as usize, level, Value::Plain(0));
@@ -71,7 +71,7 @@ impl<H: Holding + Drop> Store<H> {
     // The move of node `n` as it begins.
     fn begin_node(&mut self, tables: &Tables, n: u16, node: Node) -> Move
         requires { descends (view tables.now) n node ≡ true }
-        ensures moves { move_of stands result (kept_of stands counts self.new) ≡ begins (view tables.now) n node (kept_of stands counts self.old) }
+        ensures moves { move_of H.stands result (kept_of H.stands H.counts self.new) ≡ begins (view tables.now) n node (kept_of H.stands H.counts self.old) }
         ensures below { move_below (view tables.now) n result ≡ true }
     {
         match node {
@@ -121,7 +121,7 @@ impl<H: Holding + Drop> Store<H> {
 
     pub(crate) fn begin(&mut self, tables: &Tables, n: u16) -> Move
         requires { Descends (view tables.now) }
-        ensures moves { move_of stands result (kept_of stands counts self.new) ≡ begins (view tables.now) n (node_of (view tables.now) n) (kept_of stands counts self.old) }
+        ensures moves { move_of H.stands result (kept_of H.stands H.counts self.new) ≡ begins (view tables.now) n (node_of (view tables.now) n) (kept_of H.stands H.counts self.old) }
         ensures below { move_below (view tables.now) n result ≡ true }
     {
         self.begin_node(tables, n, typed_node(tables, n).node)

@@ -20,7 +20,7 @@ impl<H: Holding + Drop> Store<H> {
     pub(crate) fn meet(&mut self, tables: &Tables, frame: Frame, signal: Signal<Shares>) -> Move
         requires below { frame_below (view tables.now) frame ≡ true }
         requires apart { (is_argument signal && is_calling frame) ≡ false }
-        ensures moves { (xs : List (Value ℕ)) → move_of stands result (kept_of stands counts self.new) ≡ meets (view tables.now) (frame_of stands xs frame) (signal_of stands signal) (kept_of stands counts self.old) }
+        ensures moves { (xs : List (Value ℕ)) → move_of H.stands result (kept_of H.stands H.counts self.new) ≡ meets (view tables.now) (frame_of H.stands xs frame) (signal_of H.stands signal) (kept_of H.stands H.counts self.old) }
         ensures fits { (depth : ℕ) → depth_fits (view tables.now) (number frame) depth ≡ true → signal_fits (view tables.now) (suc depth) signal ≡ true → move_fits (view tables.now) depth result ≡ true }
     {
         match frame {

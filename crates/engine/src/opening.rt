@@ -46,7 +46,7 @@ pub(crate) fn check<L: Levels>(
 impl<H: Holding + Drop> Store<H> {
     // Every cell is 0: those of the variables are set so in order, and put in where their level is not public.
     fn all_zero(holding: H, variables: &[Variable]) -> Store<H>
-        ensures { kept_of stands counts result ≡ zeroed 0 variables.now (unset (counts holding)) }
+        ensures { kept_of H.stands H.counts result ≡ zeroed 0 variables.now (unset (H.counts holding)) }
     {
         let mut store = Store {
             holding,
@@ -72,8 +72,8 @@ pub(crate) fn main_of(tables: &Tables) -> u16
 pub(crate) fn make<H: Holding + Drop>(workspace: Workspace, holding: H) -> Machine<H>
     requires { Ready (view workspace.tables) }
     ensures program { program result ≡ view workspace.tables }
-    ensures stands { standing stands counts result ≡ opened (view workspace.tables) (counts holding) }
-    ensures fits { CellsFit (view workspace.tables) (kept stands counts result) }
+    ensures stands { standing H.stands H.counts result ≡ opened (view workspace.tables) (H.counts holding) }
+    ensures fits { CellsFit (view workspace.tables) (kept H.stands H.counts result) }
 {
     let tables = workspace.tables;
     let mut stack = workspace.stack;

@@ -26,8 +26,8 @@ pub(crate) fn combine_words(operator: Operator, a: u32, b: u32) -> Option<u32>
 
 impl<H: Holding + Drop> Store<H> {
     pub(crate) fn minus(&mut self, level: u32, figure: Value<Shares>) -> Value<Shares>
-        ensures value { value_of stands result ≡ result_at level (minus_word (plain_word (value_of stands figure))) (minus_word (word_in (value_of stands figure))) }
-        ensures kept { kept_of stands counts self.new ≡ working level (value_of stands figure) (kept_of stands counts self.old) }
+        ensures value { value_of H.stands result ≡ result_at level (minus_word (plain_word (value_of H.stands figure))) (minus_word (word_in (value_of H.stands figure))) }
+        ensures kept { kept_of H.stands H.counts self.new ≡ working level (value_of H.stands figure) (kept_of H.stands H.counts self.old) }
     {
         match level {
             0 => Value::Plain(operators::minus(plain_word(figure))),
@@ -39,8 +39,8 @@ impl<H: Holding + Drop> Store<H> {
     }
 
     pub(crate) fn not(&mut self, level: u32, figure: Value<Shares>) -> Value<Shares>
-        ensures value { value_of stands result ≡ result_at level (not_word (plain_word (value_of stands figure))) (not_word (word_in (value_of stands figure))) }
-        ensures kept { kept_of stands counts self.new ≡ working level (value_of stands figure) (kept_of stands counts self.old) }
+        ensures value { value_of H.stands result ≡ result_at level (not_word (plain_word (value_of H.stands figure))) (not_word (word_in (value_of H.stands figure))) }
+        ensures kept { kept_of H.stands H.counts self.new ≡ working level (value_of H.stands figure) (kept_of H.stands H.counts self.old) }
     {
         match level {
             0 => Value::Plain(operators::not(plain_word(figure))),
@@ -53,8 +53,8 @@ impl<H: Holding + Drop> Store<H> {
 
     // The holding's operator on two figures that it holds.
     fn combine_held(&mut self, operator: Operator, x: Shares, y: Shares) -> Shares
-        ensures stands { stands result ≡ held_result operator (stands x) (stands y) }
-        ensures kept { kept_of stands counts self.new ≡ operated (kept_of stands counts self.old) }
+        ensures stands { H.stands result ≡ held_result operator (H.stands x) (H.stands y) }
+        ensures kept { kept_of H.stands H.counts self.new ≡ operated (kept_of H.stands H.counts self.old) }
     {
         match operator {
             Operator::Arithmetic(operator, data_type) => self
@@ -75,8 +75,8 @@ impl<H: Holding + Drop> Store<H> {
         x: Value<Shares>,
         y: Value<Shares>,
     ) -> Value<Shares>
-        ensures value { value_of stands result ≡ Held (held_result operator (word_in (value_of stands x)) (word_in (value_of stands y))) }
-        ensures kept { kept_of stands counts self.new ≡ operated (putting (value_of stands y) (putting (value_of stands x) (kept_of stands counts self.old))) }
+        ensures value { value_of H.stands result ≡ Held (held_result operator (word_in (value_of H.stands x)) (word_in (value_of H.stands y))) }
+        ensures kept { kept_of H.stands H.counts self.new ≡ operated (putting (value_of H.stands y) (putting (value_of H.stands x) (kept_of H.stands H.counts self.old))) }
     {
         let first = self.hold(x);
         let second = self.hold(y);

@@ -93,7 +93,7 @@ impl<H: Holding + Drop> Store<H> {
         figure: Value<Shares>,
     ) -> Move
         requires { nat_lt second n ≡ true }
-        ensures moves { move_of stands result (kept_of stands counts self.new) ≡ got (view tables.now) n (first operator second) (value_of stands figure) (kept_of stands counts self.old) }
+        ensures moves { move_of H.stands result (kept_of H.stands H.counts self.new) ≡ got (view tables.now) n (first operator second) (value_of H.stands figure) (kept_of H.stands H.counts self.old) }
         ensures below { move_below (view tables.now) n result ≡ true }
     {
         if decides(operator, figure) {
@@ -112,7 +112,7 @@ impl<H: Holding + Drop> Store<H> {
         x: Value<Shares>,
         y: Value<Shares>,
     ) -> Move
-        ensures moves { move_of stands result (kept_of stands counts self.new) ≡ got_both (view tables.now) n operator (value_of stands x) (value_of stands y) (kept_of stands counts self.old) }
+        ensures moves { move_of H.stands result (kept_of H.stands H.counts self.new) ≡ got_both (view tables.now) n operator (value_of H.stands x) (value_of H.stands y) (kept_of H.stands H.counts self.old) }
         ensures below { move_below (view tables.now) n result ≡ true }
     {
         match tables.level(n) {
@@ -126,7 +126,7 @@ impl<H: Holding + Drop> Store<H> {
 
     // The word of a figure, taken out if it is held.
     fn word(&self, figure: Value<Shares>) -> u32
-        ensures { result ≡ word_in (value_of stands figure) }
+        ensures { result ≡ word_in (value_of H.stands figure) }
     {
         match figure {
             Value::Plain(word) => word,
@@ -135,8 +135,8 @@ impl<H: Holding + Drop> Store<H> {
     }
 
     fn assign(&mut self, tables: &Tables, variable: u16, figure: Value<Shares>) -> Value<Shares>
-        ensures value { value_of stands result ≡ settled (level_at (view tables.now) variable) (value_of stands figure) }
-        ensures kept { kept_of stands counts self.new ≡ stored variable (level_at (view tables.now) variable) (value_of stands figure) (kept_of stands counts self.old) }
+        ensures value { value_of H.stands result ≡ settled (level_at (view tables.now) variable) (value_of H.stands figure) }
+        ensures kept { kept_of H.stands H.counts self.new ≡ stored variable (level_at (view tables.now) variable) (value_of H.stands figure) (kept_of H.stands H.counts self.old) }
     {
         let variable = variable as usize;
         self.set(variable, tables.variable_level(variable), figure)
@@ -151,7 +151,7 @@ impl<H: Holding + Drop> Store<H> {
         figure: Value<Shares>,
     ) -> Move
         requires { want_below n want ≡ true }
-        ensures moves { move_of stands result (kept_of stands counts self.new) ≡ got (view tables.now) n (want_of stands want) (value_of stands figure) (kept_of stands counts self.old) }
+        ensures moves { move_of H.stands result (kept_of H.stands H.counts self.new) ≡ got (view tables.now) n (want_of H.stands want) (value_of H.stands figure) (kept_of H.stands H.counts self.old) }
         ensures below { move_below (view tables.now) n result ≡ true }
     {
         match want {

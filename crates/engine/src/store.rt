@@ -17,7 +17,7 @@ pub struct Store<H: Holding + Drop> {
 impl<H: Holding + Drop> Store<H> {
     // What the cell of a variable holds.
     pub(crate) fn read(&self, variable: usize) -> Value<Shares>
-        ensures { value_of stands result ≡ cell variable (kept_of stands counts self.now) }
+        ensures { value_of H.stands result ≡ cell variable (kept_of H.stands H.counts self.now) }
     {
         if variable < CELLS {
             self.cells.read(variable)
@@ -27,7 +27,7 @@ impl<H: Holding + Drop> Store<H> {
     }
 
     fn write(&mut self, variable: usize, figure: Value<Shares>)
-        ensures { kept_of stands counts self.new ≡ (let k = kept_of stands counts self.old in record { cells = slice_set k.cells variable (value_of stands figure); counts = k.counts }) }
+        ensures { kept_of H.stands H.counts self.new ≡ (let k = kept_of H.stands H.counts self.old in record { cells = slice_set k.cells variable (value_of H.stands figure); counts = k.counts }) }
     {
         if variable < CELLS {
             *self.cells.cell(variable) = figure;
@@ -36,8 +36,8 @@ impl<H: Holding + Drop> Store<H> {
 
     // A figure as three words: a plain one is put in.
     pub(crate) fn hold(&mut self, figure: Value<Shares>) -> Shares
-        ensures stands { stands result ≡ word_in (value_of stands figure) }
-        ensures kept { kept_of stands counts self.new ≡ putting (value_of stands figure) (kept_of stands counts self.old) }
+        ensures stands { H.stands result ≡ word_in (value_of H.stands figure) }
+        ensures kept { kept_of H.stands H.counts self.new ≡ putting (value_of H.stands figure) (kept_of H.stands H.counts self.old) }
     {
         match figure {
             Value::Plain(word) => self.holding.put_in(word),
@@ -47,8 +47,8 @@ impl<H: Holding + Drop> Store<H> {
 
     // A figure where a level is due: a plain one is put in, unless the level is public.
     pub(crate) fn settle(&mut self, level: u32, figure: Value<Shares>) -> Value<Shares>
-        ensures value { value_of stands result ≡ settled level (value_of stands figure) }
-        ensures kept { kept_of stands counts self.new ≡ settling level (value_of stands figure) (kept_of stands counts self.old) }
+        ensures value { value_of H.stands result ≡ settled level (value_of H.stands figure) }
+        ensures kept { kept_of H.stands H.counts self.new ≡ settling level (value_of H.stands figure) (kept_of H.stands H.counts self.old) }
     {
         match level {
             0 => figure,
@@ -63,8 +63,8 @@ impl<H: Holding + Drop> Store<H> {
         level: u32,
         figure: Value<Shares>,
     ) -> Value<Shares>
-        ensures value { value_of stands result ≡ settled level (value_of stands figure) }
-        ensures kept { kept_of stands counts self.new ≡ stored variable level (value_of stands figure) (kept_of stands counts self.old) }
+        ensures value { value_of H.stands result ≡ settled level (value_of H.stands figure) }
+        ensures kept { kept_of H.stands H.counts self.new ≡ stored variable level (value_of H.stands figure) (kept_of H.stands H.counts self.old) }
     {
         let figure = self.settle(level, figure);
         self.write(variable, figure);

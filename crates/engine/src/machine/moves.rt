@@ -18,7 +18,7 @@ impl<H: Holding + Drop> Machine<H> {
     pub(crate) fn drive(&mut self, step: Move) -> Option<Signal<Shares>>
         requires { move_fits (program self.old) (length (entries self.old.control)) step ≡ true }
         ensures tables { self.new.control.tables ≡ self.old.control.tables }
-        ensures stands { handing stands counts result self.new ≡ (let m = self.old in model.drive (program m) (frames stands counts m) (model.pass (program m) (frames stands counts m)) (shown stands counts m) (move_of stands step (kept stands counts m))) }
+        ensures stands { handing H.stands H.counts result self.new ≡ (let m = self.old in model.drive (program m) (frames H.stands H.counts m) (model.pass (program m) (frames H.stands H.counts m)) (shown H.stands H.counts m) (move_of H.stands step (kept H.stands H.counts m))) }
         ensures entries { HandedSame result (entries self.old.control) (entries self.new.control) }
         ensures fits { handed_fits (program self.new) (length (entries self.new.control)) result ≡ true }
     {
@@ -58,7 +58,7 @@ impl<H: Holding + Drop> Machine<H> {
         requires fits { signal_fits (program self.old) (length (entries self.old.control)) signal ≡ true }
         requires apart { (is_argument signal && in_call (entries self.old.control)) ≡ false }
         ensures tables { self.new.control.tables ≡ self.old.control.tables }
-        ensures stands { handing stands counts result self.new ≡ handing stands counts (Some signal) self.old }
+        ensures stands { handing H.stands H.counts result self.new ≡ handing H.stands H.counts (Some signal) self.old }
         ensures entries { HandedLess result (entries self.old.control) (entries self.new.control) }
         ensures fits { handed_fits (program self.new) (length (entries self.new.control)) result ≡ true }
     {
@@ -80,7 +80,7 @@ impl<H: Holding + Drop> Machine<H> {
     fn meet(&mut self, signal: Signal<Shares>) -> Option<Signal<Shares>>
         requires { signal_fits (program self.old) (length (entries self.old.control)) signal ≡ true }
         ensures tables { self.new.control.tables ≡ self.old.control.tables }
-        ensures stands { handing stands counts result self.new ≡ handing stands counts (Some signal) self.old }
+        ensures stands { handing H.stands H.counts result self.new ≡ handing H.stands H.counts (Some signal) self.old }
         ensures entries { HandedLess result (entries self.old.control) (entries self.new.control) }
         ensures fits { handed_fits (program self.new) (length (entries self.new.control)) result ≡ true }
     {
@@ -100,7 +100,7 @@ impl<H: Holding + Drop> Machine<H> {
     pub(crate) fn pass(&mut self, handed: Option<Signal<Shares>>)
         requires { handed_fits (program self.old) (length (entries self.old.control)) handed ≡ true }
         ensures tables { self.new.control.tables ≡ self.old.control.tables }
-        ensures stands { standing stands counts self.new ≡ handing stands counts handed self.old }
+        ensures stands { standing H.stands H.counts self.new ≡ handing H.stands H.counts handed self.old }
     {
         let mut handed = handed;
         while let Some(signal) = handed {
