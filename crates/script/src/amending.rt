@@ -8,7 +8,7 @@ use words::types::{Arithmetic, DataType};
 // Puts both ints in, adds them, and takes the sum out.
 pub fn amend<H: Holding>(holding: &mut H, weight: u32, correction: u32) -> u32
     ensures sum { result ≡ amended weight correction }
-    ensures counts { counts holding.new ≡ amended_counts (counts holding.old) }
+    ensures counts { H.counts holding.new ≡ amended_counts (H.counts holding.old) }
 {
     let weight = holding.put_in(weight);
     let correction = holding.put_in(correction);

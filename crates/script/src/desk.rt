@@ -25,7 +25,7 @@ pub struct Desk {
 
 // The answer to an amendment in a holding, with the counts that it then has.
 fn amend_in<H: Holding + Drop>(mut holding: H, weight: u32, correction: u32) -> Answer
-    ensures { result ≡ amend_answer weight correction (counts holding) }
+    ensures { result ≡ amend_answer weight correction (H.counts holding) }
 {
     let sum = int_of_word(amend(&mut holding, weight, correction));
     let Counts { puts, ops } = holding.tally();
