@@ -4,7 +4,7 @@ use Rattle.words.specs.declared.types.DataType.{DataType}
 use Rattle.program.specs.declared.records.Node.{Node}
 use Rattle.typing.specs.Environment.{Environment, level_of}
 use Rattle.semantics.specs.State.{Shown, Kept, tick, full, written, word_in, plain_word, plain_result, held_result, working_both, node_of, figure_type}
-use Rattle.semantics.specs.Machine.{Frame, wait, then, loop, calling, running, Move, begin, over, line, Config, at, done, argued, begins, got, got_both, drive, pass, turn, run, Want, negating, inverting, first, second, choosing, chosen, assigning, arguing, releasing, outputting, discarding, branching, branching_else, guarding, returning}
+use Rattle.semantics.specs.Machine.{Frame, wait, then, loop, calling, running, Move, begin, over, line, Config, at, done, argued, begins, got, got_both, meets, drive, pass, turn, run, Want, negating, inverting, first, second, choosing, chosen, assigning, arguing, releasing, outputting, discarding, branching, branching_else, guarding, returning}
 use Rattle.semantics.specs.Machine as machine
 use Rattle.semantics.specs.Natural.{Ending, ends, stops, on_value, gives, falls, argues, called, goes_on, left, lined, plainly, combined, Runs, cut, constant, variable, minus, not, arithmetic, comparison, and, or, choice, choice_stays, assignment, call, argument, release, expression, sequence, sequence_leaves, if, if_not, if_stays, if_else, if_else_stays, while, do_while, return, return_void, break, continue, definition, output, Operates, both, skips, stays, Rounds, holds_on, fails, guard_stays, Bodies, again, leaves, Passes, passes, argument_stays, enters}
 use Rattle.semantics.specs.declared.lines.LineKind.{LineKind}
@@ -66,7 +66,7 @@ module _ (e : Environment) where
 
   -- a node that waits for a value lets any other ending pass
   waited : {l n : ℕ} {c : Config} {w : Want} {fs : List Frame} {r : Ending} (g : Value ℕ → Shown → Kept → ℕ → Ending) → Reaches l c (wait n w ∷ fs) r → ((x : Value ℕ) (s : Shown) (k : Kept) (m : ℕ) → Reaches m (act fs s (got e n w x k)) fs (g x s k m)) → Reaches l c fs (on_value r g)
-  unfolding pass
+  unfolding pass meets
   waited g (reach {z = Gives x} {m} {s} {k} f) h = from f (h x s k m)
   waited g (reach {z = Argues x next} f) h = reach f
   waited g (reach {z = Falls} f) h = reach f
@@ -76,7 +76,7 @@ module _ (e : Environment) where
   waited g (halt f i) h = halt f i
 
   unmet : {l n : ℕ} {c : Config} {w : Want} {fs : List Frame} {r : Ending} → Reaches l c (wait n w ∷ fs) r → gives r ≡ false → Reaches l c fs r
-  unfolding pass
+  unfolding pass meets
   unmet (reach {z = Gives x} f) i = absurd (true≢false i)
   unmet (reach {z = Argues x next} f) i = reach f
   unmet (reach {z = Falls} f) i = reach f
@@ -86,7 +86,7 @@ module _ (e : Environment) where
   unmet (halt f j) i = halt f j
 
   unfallen : {l n b : ℕ} {c : Config} {fs : List Frame} {r : Ending} → Reaches l c (then n b ∷ fs) r → falls r ≡ false → Reaches l c fs r
-  unfolding pass
+  unfolding pass meets
   unfallen (reach {z = Gives x} f) i = reach f
   unfallen (reach {z = Argues x next} f) i = reach f
   unfallen (reach {z = Falls} f) i = absurd (true≢false i)
@@ -96,7 +96,7 @@ module _ (e : Environment) where
   unfallen (halt f j) i = halt f j
 
   unargued : {l n g : ℕ} {xs : List (Value ℕ)} {c : Config} {fs : List Frame} {r : Ending} → Reaches l c (calling n g xs ∷ fs) r → argues r ≡ false → Reaches l c fs r
-  unfolding pass
+  unfolding pass meets
   unargued (reach {z = Gives x} f) i = reach f
   unargued (reach {z = Argues x next} f) i = absurd (true≢false i)
   unargued (reach {z = Falls} f) i = reach f
@@ -106,7 +106,7 @@ module _ (e : Environment) where
   unargued (halt f j) i = halt f j
 
   loop_left : {l n a b : ℕ} {c : Config} {fs : List Frame} {r : Ending} → Reaches l c (loop n a b ∷ fs) r → goes_on r ≡ false → Reaches l c fs (left r)
-  unfolding pass
+  unfolding pass meets
   loop_left (reach {z = Gives x} f) i = reach f
   loop_left (reach {z = Argues x next} f) i = reach f
   loop_left (reach {z = Falls} f) i = absurd (true≢false i)
@@ -116,7 +116,7 @@ module _ (e : Environment) where
   loop_left (halt f j) i = halt f j
 
   looped : {l n a b m : ℕ} {c : Config} {fs : List Frame} {z : Signal ℕ} {s : Shown} {k : Kept} → Reaches l c (loop n a b ∷ fs) (ends z s k m) → goes_on (ends z s k m) ≡ true → To l c m (at a (wait n (guarding a b) ∷ fs) s k)
-  unfolding pass
+  unfolding pass meets
   looped (reach {z = Gives x} f) i = absurd (true≢false (sym i))
   looped (reach {z = Argues x next} f) i = absurd (true≢false (sym i))
   looped (reach {z = Falls} f) i = f
@@ -125,7 +125,7 @@ module _ (e : Environment) where
   looped (reach {z = Continues} f) i = f
 
   returned : {l n : ℕ} {c : Config} {fs : List Frame} {r : Ending} → Reaches l c (running n ∷ fs) r → Reaches l c fs (called r)
-  unfolding pass
+  unfolding pass meets
   returned (reach {z = Gives x} f) = reach f
   returned (reach {z = Argues x next} f) = reach f
   returned (reach {z = Falls} f) = reach f
@@ -151,7 +151,7 @@ module _ (e : Environment) where
       by false u = reach here
 
   mutual
-    unfolding pass
+    unfolding begins got pass meets
 
     pub agrees : {n l : ℕ} {x : Node} {s : Shown} {k : Kept} {r : Ending} → Runs e n x s k l r → node_of e n ≡ x → (fs : List Frame) → Reaches l (at n fs s k) fs r
     agrees cut i fs = halt here before_node

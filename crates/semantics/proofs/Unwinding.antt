@@ -106,6 +106,7 @@ module _ (r : Rules) (law : Lawful r) (o : ℕ) (known : r.is_level o ≡ true) 
   child {q = q} n m x h c b = formed.together n m q x h c b
 
   figure_low : {q l : ℕ} {t : DataType} (n : ℕ) (k j : Kept) → Expression r p q n t l → Alike r o p k j → Moves r o p (figure l) (begins (environment_of r p) n (node_of (environment_of r p) n) k) (begins (environment_of r p) n (node_of (environment_of r p) n) j)
+  unfolding begins
   figure_low n k j (constant {w = w} h) al = step n k j _ h (m_over (e_gives (one_public r law o known w)) al)
   figure_low n k j (variable {v = v} {x = x} h i s) al = step n k j _ h (m_over (e_gives (alike_cell r law o known p v x i al)) al)
   figure_low n k j (minus h d) al = step n k j _ h (m_under (a_wait (w_minus (level_told (minus h d)))) (b_figure d) al)
@@ -120,6 +121,7 @@ module _ (r : Rules) (law : Lawful r) (o : ℕ) (known : r.is_level o ≡ true) 
   figure_low n k j (release h d) al = step n k j _ h (m_under (a_wait w_releasing) (b_figure d) al)
 
   statement_low : {q : ℕ} {x : Exits} (n : ℕ) (k j : Kept) → Statement r p q n x → Belongs p q n → Alike r o p k j → Moves r o p (statement q) (begins (environment_of r p) n (node_of (environment_of r p) n) k) (begins (environment_of r p) n (node_of (environment_of r p) n) j)
+  unfolding begins
   statement_low n k j (expression h d) b al = step n k j _ h (m_under (a_wait w_discarding) (b_figure d) al)
   statement_low n k j (procedure_call h d) b al = step n k j _ h (m_under (a_wait w_void) (b_void d) al)
   statement_low n k j (sequence h d f g) b al = step n k j _ h (m_under (a_then g (child n _ _ h (inr (inl refl)) b)) (b_statement d (child n _ _ h (inl refl) b)) al)
@@ -139,6 +141,7 @@ module _ (r : Rules) (law : Lawful r) (o : ℕ) (known : r.is_level o ≡ true) 
   statement_low n k j (output h d) b al = step n k j _ h (m_under (a_wait w_outputting) (b_figure d) al)
 
   begins_low : {a : Part} (n : ℕ) (k j : Kept) → Begins r o p a n → Alike r o p k j → Moves r o p a (begins (environment_of r p) n (node_of (environment_of r p) n) k) (begins (environment_of r p) n (node_of (environment_of r p) n) j)
+  unfolding begins
   begins_low n k j (b_figure d) al = figure_low n k j d al
   begins_low n k j (b_void (void_call h lt i s d)) al = step n k j _ h (called_void n _ i s d al)
   begins_low n k j (b_argument h d) al = step n k j _ h (m_under (a_wait w_arguing) (b_figure d) al)
@@ -159,6 +162,7 @@ module _ (r : Rules) (law : Lawful r) (o : ℕ) (known : r.is_level o ≡ true) 
   decides_alike Or l (Held w) (Held v) a = refl
 
   first_low : {q b l m : ℕ} {t : DataType} {k j : Kept} (n : ℕ) (f : Operator) (x y : Value ℕ) → level_of (environment_of r p) n ≡ r.joint l m → r.is_level l ≡ true → r.is_level m ≡ true → Expression r p q b t m → Agree r o l x y → Alike r o p k j → Moves r o p (figure (r.joint l m)) (got (environment_of r p) n (first f b) x k) (got (environment_of r p) n (first f b) y j)
+  unfolding got
   first_low {b = b} {l = l} {m = m} {k = k} {j = j} n f x y lev i u d a al =
       subst (λ (c : Bool). Moves r o p (figure (r.joint l m)) (got (environment_of r p) n (first f b) x k) (cond c (over (Gives (settled (level_of (environment_of r p) n) y)) (settling (level_of (environment_of r p) n) y j)) (under (wait n (second f y)) b j))) (decides_alike f l x y a) (by (decides f x))
     where
@@ -230,6 +234,7 @@ module _ (r : Rules) (law : Lawful r) (o : ℕ) (known : r.is_level o ≡ true) 
   branch_low false d b f c al = m_begin (b_statement f c) al
 
   got_low : {l n : ℕ} {b : Part} {w v : Want} {k j : Kept} (x y : Value ℕ) → Waits r o p (figure l) b n w v → Agree r o l x y → Alike r o p k j → Moves r o p b (got (environment_of r p) n w x k) (got (environment_of r p) n v y j)
+  unfolding got
   got_low {n = n} x y (w_minus lev) a al = worked_low n minus_word x y lev a al
   got_low {n = n} x y (w_not lev) a al = worked_low n not_word x y lev a al
   got_low {n = n} x y (w_first {f = f} lev i u d) a al = first_low n f x y lev i u d a al
@@ -251,6 +256,7 @@ module _ (r : Rules) (law : Lawful r) (o : ℕ) (known : r.is_level o ≡ true) 
   -- ---- a frame meets the end of what it stands above
 
   bare_wait : {b : Part} {k j : Kept} (n : ℕ) (w v : Want) (z : Signal ℕ) → Bare z → Alike r o p k j → Moves r o p b (meets (environment_of r p) (wait n w) z k) (meets (environment_of r p) (wait n v) z j)
+  unfolding meets
   bare_wait n w v (Gives x) h al = absurd h
   bare_wait n w v (Argues x next) h al = absurd h
   bare_wait n w v Falls h al = m_over (e_bare Falls tt) al
@@ -260,6 +266,7 @@ module _ (r : Rules) (law : Lawful r) (o : ℕ) (known : r.is_level o ≡ true) 
   bare_wait n w v Continues h al = m_over (e_bare Continues tt) al
 
   bare_then : {q b : ℕ} {x : Exits} {k j : Kept} (n : ℕ) (z : Signal ℕ) → Bare z → Statement r p q b x → Belongs p q b → Alike r o p k j → Moves r o p (statement q) (meets (environment_of r p) (then n b) z k) (meets (environment_of r p) (then n b) z j)
+  unfolding meets
   bare_then n (Gives x) h d i al = absurd h
   bare_then n (Argues x next) h d i al = absurd h
   bare_then n Falls h d i al = m_begin (b_statement d i) al
@@ -269,6 +276,7 @@ module _ (r : Rules) (law : Lawful r) (o : ℕ) (known : r.is_level o ≡ true) 
   bare_then n Continues h d i al = m_over (e_bare Continues tt) al
 
   bare_loop : {q a b : ℕ} {x : Exits} {k j : Kept} (n : ℕ) (z : Signal ℕ) → Bare z → Expression r p q a Boolean 0 → Statement r p q b x → Belongs p q b → Alike r o p k j → Moves r o p (statement q) (meets (environment_of r p) (loop n a b) z k) (meets (environment_of r p) (loop n a b) z j)
+  unfolding meets
   bare_loop n (Gives x) h c d i al = absurd h
   bare_loop n (Argues x next) h c d i al = absurd h
   bare_loop n Falls h c d i al = m_under (a_wait (w_guarding c d i)) (b_figure c) al
@@ -278,6 +286,7 @@ module _ (r : Rules) (law : Lawful r) (o : ℕ) (known : r.is_level o ≡ true) 
   bare_loop n Continues h c d i al = m_under (a_wait (w_guarding c d i)) (b_figure c) al
 
   bare_calling : {b : Part} {k j : Kept} (n g : ℕ) (xs ys : List (Value ℕ)) (z : Signal ℕ) → Bare z → Alike r o p k j → Moves r o p b (meets (environment_of r p) (calling n g xs) z k) (meets (environment_of r p) (calling n g ys) z j)
+  unfolding meets
   bare_calling n g xs ys (Gives x) h al = absurd h
   bare_calling n g xs ys (Argues x next) h al = absurd h
   bare_calling n g xs ys Falls h al = m_over (e_bare Falls tt) al
@@ -287,6 +296,7 @@ module _ (r : Rules) (law : Lawful r) (o : ℕ) (known : r.is_level o ≡ true) 
   bare_calling n g xs ys Continues h al = m_over (e_bare Continues tt) al
 
   bare_running : {b : Part} {k j : Kept} (n : ℕ) (z : Signal ℕ) → Bare z → Alike r o p k j → Moves r o p b (meets (environment_of r p) (running n) z k) (meets (environment_of r p) (running n) z j)
+  unfolding meets
   bare_running n (Gives x) h al = absurd h
   bare_running n (Argues x next) h al = absurd h
   bare_running n Falls h al = m_over (e_bare Falls tt) al
@@ -300,6 +310,7 @@ module _ (r : Rules) (law : Lawful r) (o : ℕ) (known : r.is_level o ≡ true) 
   returned_low {t = t} (c_void s) h a al = some_none t (sym h ∙ s)
 
   meets_low : {a b : Part} {f g : Frame} {z y : Signal ℕ} {k j : Kept} → Above r o p a b f g → Ends r o p a z y → Alike r o p k j → Moves r o p b (meets (environment_of r p) f z k) (meets (environment_of r p) g y j)
+  unfolding meets
   meets_low (a_wait w) (e_gives {x = x} {y = y} a) al = got_low x y w a al
   meets_low (a_wait w) (e_argues a) al = absurd (awaited w)
   meets_low (a_wait w) (e_returns s a) al = absurd (awaited w)

@@ -85,7 +85,7 @@ module _ (e : Environment) where
   argued n g xs (Some m) k = under (calling n g xs) m k
 
   -- node n begins
-  abbrev pub begins : ℕ → Node → Kept → Move
+  unfoldable pub begins : ℕ → Node → Kept → Move
   begins n (Constant t w) k = over (Gives (Plain w)) k
   begins n (Variable v) k = over (Gives (cell v k)) k
   begins n (Minus a) k = under (wait n negating) a k
@@ -119,7 +119,7 @@ module _ (e : Environment) where
       (over (Gives (Held (held_result o (word_in x) (word_in y)))) (working_both (level_of e n) x y k))
 
   -- node n gets the value that it waits for
-  abbrev pub got : ℕ → Want → Value ℕ → Kept → Move
+  unfoldable pub got : ℕ → Want → Value ℕ → Kept → Move
   got n negating x k = over (Gives (result (level_of e n) (minus_word (plain_word x)) (minus_word (word_in x)))) (working (level_of e n) x k)
   got n inverting x k = over (Gives (result (level_of e n) (not_word (plain_word x)) (not_word (word_in x)))) (working (level_of e n) x k)
   got n (first o b) x k =
@@ -138,7 +138,7 @@ module _ (e : Environment) where
   got n returning x k = over (Returns (Some (settled (result_level e n) x))) (settling (result_level e n) x k)
 
   -- a frame meets the end of what it stands above
-  abbrev pub meets : Frame → Signal ℕ → Kept → Move
+  unfoldable pub meets : Frame → Signal ℕ → Kept → Move
   meets (wait n w) (Gives x) k = got n w x k
   meets (wait n w) (Argues x next) k = over (Argues x next) k
   meets (wait n w) Falls k = over Falls k
