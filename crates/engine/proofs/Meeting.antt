@@ -69,7 +69,7 @@ module _ (stands : Shares → ℕ) where
 
   -- no signal but an argument's is for the figures that were passed
   pass_any : (e : Environment) (fs : List Entry) (xs ys : List (Value ℕ)) (z : Signal Shares) (s : Shown) (k : Kept) → is_argument z ≡ false → model.pass e (frames_of stands xs fs) (signal_of stands z) s k ≡ model.pass e (frames_of stands ys fs) (signal_of stands z) s k
-  unfolding frames_of model.pass
+  unfolding frames_of model.pass model.meets
   pass_any e [] xs ys z s k h = refl
   pass_any e (Framed (Wait n w) ∷ fs) xs ys z s k h = refl
   pass_any e (Framed (Then n b) ∷ fs) xs ys z s k h = refl

@@ -149,7 +149,7 @@ module _ (stands : Shares → ℕ) where
 
   -- the signal of an argument comes to its call
   argued_is : (e : Environment) (es : List Entry) (n g : ℕ) (x : Value ℕ) (next : _) (s : Shown) (k : Kept) → in_call es ≡ true → call_of es ≡ Calling n g → model.pass e (frames_of stands [] es) (Argues x next) s k ≡ model.drive e (frames_of stands [] (under_call es)) (model.pass e (frames_of stands [] (under_call es))) s (model.argued e n g (passed stands es ++ x ∷ []) next k)
-  unfolding model.pass
+  unfolding model.pass model.meets
   argued_is e es n g x next s k i c =
       ap (λ (fs : List model.Frame). model.pass e fs (Argues x next) s k) (gathered es [] n g i c)
       ∙ ap (λ (ys : List (Value ℕ)). model.drive e (frames_of stands [] (under_call es)) (model.pass e (frames_of stands [] (under_call es))) s (model.argued e n g (ys ++ x ∷ []) next k)) (append-nil (passed stands es))

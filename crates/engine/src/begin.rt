@@ -69,6 +69,7 @@ impl<H: Holding + Drop> Store<H> {
     }
 
     // The move of node `n` as it begins.
+    #[tactic(auto, unfolding(semantics::specs::Machine::begins))]
     fn begin_node(&mut self, tables: &Tables, n: u16, node: Node) -> Move
         requires { descends (view tables.now) n node ≡ true }
         ensures moves { move_of H.stands result (kept_of H.stands H.counts self.new) ≡ begins (view tables.now) n node (kept_of H.stands H.counts self.old) }

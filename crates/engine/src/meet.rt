@@ -17,6 +17,7 @@ use tables::tables::Tables;
 
 impl<H: Holding + Drop> Store<H> {
     // The move of a frame, unless it is a call's and the signal an argument's.
+    #[tactic(auto, unfolding(semantics::specs::Machine::meets))]
     pub(crate) fn meet(&mut self, tables: &Tables, frame: Frame, signal: Signal<Shares>) -> Move
         requires below { frame_below (view tables.now) frame ≡ true }
         requires apart { (is_argument signal && is_calling frame) ≡ false }

@@ -84,6 +84,7 @@ fn release(n: u16, data_type: DataType, word: u32) -> Move
 
 impl<H: Holding + Drop> Store<H> {
     // The first operand of node `n` has run: it may be the result.
+    #[tactic(auto, unfolding(semantics::specs::Machine::got))]
     fn resume_first(
         &mut self,
         tables: &Tables,
@@ -143,6 +144,7 @@ impl<H: Holding + Drop> Store<H> {
     }
 
     // The move of node `n`, which gets the value that it waits for.
+    #[tactic(auto, unfolding(semantics::specs::Machine::got))]
     pub(crate) fn resume(
         &mut self,
         tables: &Tables,
