@@ -1,5 +1,5 @@
 -- The counts of a holding. Assumes nothing.
-use Rattle.std.specs.Prelude.{ℕ, ◌+◌, ◌%◌, ◌^◌}
+use Rattle.std.specs.Prelude.{◌+◌, ◌%◌, ◌^◌}
 use Rattle.holding.specs.declared.shares.Counts.{Counts}
 
 -- nothing was put in or done yet

@@ -1,8 +1,8 @@
 -- Figures and cells that fit their levels, through the changes that a run makes.
-use Rattle.std.proofs.Common.{◌≡◌, ℕ, zero, suc, ◌+◌, ◌<◌, ◌≤◌, Bool, true, false, cond, eqb, List, [], ◌∷◌, length, get_or, take, drop, set, sym, refl, ap, ◌∙◌, subst, true≢false, add-zero, arith, length-set, get_or-set_other, get_or-set_same}
+use Rattle.std.proofs.Common.{◌≡◌, ℕ, zero, suc, ◌<◌, ◌≤◌, Bool, true, false, cond, eqb, List, [], ◌∷◌, length, get_or, take, drop, set, sym, refl, ap, ◌∙◌, subst, true≢false, arith, length-set, get_or-set_other, get_or-set_same}
 use Rattle.std.proofs.lemmas.Bool.{eqb-true, eq-eqb}
 use Rattle.levels.specs.Rules.{Rules, Lawful}
-use Rattle.program.specs.Program.{Program, at, no_variable}
+use Rattle.program.specs.Program.{Program, no_variable}
 use Rattle.program.specs.declared.records.Variable.{Variable}
 use Rattle.typing.specs.Environment.{Environment}
 use Rattle.typing.specs.Faults.{environment}
@@ -10,7 +10,7 @@ use Rattle.typing.specs.Rows.{variable_level}
 use Rattle.typing.specs.Typing.{VariableIs, parameters_of}
 use Rattle.typing.specs.declared.classes.TypedNode.{TypedNode}
 use Rattle.typing.proofs.Tabled.{at_below, at_item}
-use Rattle.semantics.specs.State.{Kept, settled, settling, result, working, working_both, operated, put, cell, stored, level_at, bound, is_local_of, cleared, entered, procedure}
+use Rattle.semantics.specs.State.{Kept, settled, settling, result, working, working_both, operated, put, stored, level_at, bound, is_local_of, cleared, entered, procedure}
 use Rattle.semantics.specs.Fitting.{Fits, Fitting}
 use Rattle.semantics.specs.declared.values.Value.{Value}
 use Rattle.semantics.specs.declared.values.Value.TheVariants.{Plain, Held}

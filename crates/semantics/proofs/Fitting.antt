@@ -1,5 +1,5 @@
 -- In a well-typed program a run keeps figures of level 0 plain and all others held, and ends each node as it may.
-use Rattle.std.proofs.Common.{◌≡◌, ℕ, Bool, true, false, cond, eqb, ◌⊎◌, List, [], ◌∷◌, ◌++◌, Some, None, Option, sym, refl, ap, ◌∙◌, subst, inl, inr, ⊎_elim, true≢false, append_assoc, append-nil, le_refl}
+use Rattle.std.proofs.Common.{◌≡◌, ℕ, Bool, true, false, cond, eqb, List, [], ◌∷◌, ◌++◌, Some, None, Option, sym, refl, ap, ◌∙◌, subst, inl, inr, ⊎_elim, true≢false, append_assoc, append-nil, le_refl}
 use Rattle.std.proofs.lemmas.Bool.{eqb-true, or_left, or_right}
 use Rattle.words.specs.declared.types.DataType.{DataType}
 use Rattle.levels.specs.Rules.{Rules, Lawful}
@@ -12,7 +12,7 @@ use Rattle.typing.specs.Formed.{WellFormed, Belongs}
 use Rattle.typing.specs.Typing.{NodeIs, ProcedureIs, parameters_of, Expression, Arguments, Statement, Ends, WellTyped}
 use Rattle.typing.specs.declared.classes.Exits.{Exits}
 use Rattle.typing.specs.declared.classes.TypedNode.{TypedNode}
-use Rattle.semantics.specs.State.{Shown, Kept, full, written, word_in, plain_word, settled, result, working_both, decides, plain_result, held_result, holds, cell, node_of, figure_type, result_level}
+use Rattle.semantics.specs.State.{Shown, Kept, full, written, word_in, plain_word, settled, working_both, decides, plain_result, held_result, holds, cell, node_of, figure_type, result_level}
 use Rattle.semantics.specs.Natural.{Ending, ends, stops, on_value, gives, falls, argues, called, goes_on, left, lined, plainly, combined, Runs, cut, constant, variable, minus, not, arithmetic, comparison, and, or, choice, choice_stays, assignment, call, argument, release, expression, sequence, sequence_leaves, if, if_not, if_stays, if_else, if_else_stays, while, do_while, return, return_void, break, continue, definition, output, Operates, both, skips, stays, Rounds, holds_on, fails, guard_stays, Bodies, again, leaves, Passes, passes, argument_stays, enters}
 use Rattle.semantics.specs.Fitting.{Fits, Fitting, Returned, ValueEnding, ArgumentEnding, CallEnding, StatementEnding}
 use Rattle.semantics.specs.declared.lines.LineKind.{LineKind}

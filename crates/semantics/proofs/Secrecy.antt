@@ -1,5 +1,5 @@
 -- No sequence of calls carries a hidden figure to an observer, except in a released word.
-use Rattle.std.proofs.Common.{◌≡◌, ℕ, suc, ◌+◌, ◌-◌, ◌<◌, ◌≤◌, Bool, true, false, cond, ◌&&◌, ltb, List, [], ◌∷◌, ◌++◌, length, get_or, take, Some, None, Ok, Err, Option, Result, sym, refl, ap, ◌∙◌, subst, true≢false, le_refl, arith, length-append}
+use Rattle.std.proofs.Common.{◌≡◌, ℕ, suc, ◌+◌, ◌<◌, ◌≤◌, Bool, true, false, cond, ◌&&◌, ltb, List, [], ◌∷◌, ◌++◌, length, get_or, take, Some, None, Ok, Err, Option, Result, sym, refl, ap, ◌∙◌, subst, true≢false, le_refl, arith, length-append}
 use Rattle.levels.specs.Rules.{Rules, Lawful}
 use Rattle.holding.specs.declared.shares.Counts.{Counts}
 use Rattle.program.specs.Program.{Program, no_procedure}

@@ -20,7 +20,7 @@ use Rattle.typing.proofs.Tabled.{some_none}
 use Rattle.typing.proofs.Theorems.{sound_acceptance}
 use Rattle.semantics.specs.State.{Shown, Kept, tick, full, written, word_in, plain_word, settled, settling, result, working, working_both, decides, plain_result, held_result, holds, stored, level_at, node_of, procedure}
 use Rattle.semantics.specs.Fitting.{nodes_of, environment_of}
-use Rattle.semantics.specs.Machine.{Frame, wait, then, loop, calling, running, Move, begin, under, over, line, Config, at, done, shown, plainly, argued, begins, got, got_both, meets, drive, pass, turn, run, Want, first, second, chosen}
+use Rattle.semantics.specs.Machine.{Frame, wait, then, loop, calling, running, Move, begin, under, over, line, Config, done, shown, plainly, argued, begins, got, got_both, meets, drive, pass, turn, run, Want, first, second, chosen}
 use Rattle.semantics.specs.declared.lines.LineKind.TheVariants.{Release as ReleaseLine, Output as OutputLine}
 use Rattle.semantics.specs.declared.lines.Outcome.TheVariants.{LinesFull}
 use Rattle.semantics.specs.declared.values.Operator.{Operator}

@@ -1,5 +1,5 @@
 -- Where the lines of two runs part. Assumes nothing.
-use Rattle.std.specs.Prelude.{◌≡◌, ℕ, zero, suc, List, ◌∷◌, ◌≢◌}
+use Rattle.std.specs.Prelude.{ℕ, zero, suc, List, ◌∷◌, ◌≢◌}
 use Rattle.words.specs.declared.types.DataType.{DataType}
 use Rattle.semantics.specs.declared.lines.Line.{Line}
 use Rattle.semantics.specs.declared.lines.LineKind.TheVariants.{Release}

@@ -1,5 +1,5 @@
 -- What a run alters, and the small steps in which it does. Assumes nothing.
-use Rattle.std.specs.Prelude.{ℕ, suc, ◌+◌, Bool, false, cond, not, List, [], ◌∷◌, ◌++◌, length, get_or, set, Some, None, Option, ◌==◌, nat_le, slice_index_or, slice_set}
+use Rattle.std.specs.Prelude.{ℕ, suc, Bool, false, cond, not, List, [], ◌∷◌, ◌++◌, length, get_or, Some, None, Option, ◌==◌, nat_le, slice_index_or, slice_set}
 use Rattle.words.specs.Operators.{truth, and_word, or_word, arithmetic_word, held_arithmetic_word, comparison_word}
 use Rattle.words.specs.declared.types.DataType.{DataType}
 use Rattle.words.specs.declared.types.DataType.TheVariants.{Bool as Boolean}

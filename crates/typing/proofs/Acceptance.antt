@@ -1,5 +1,5 @@
 -- No row refuses a file exactly where its program passes every row.
-use Rattle.std.proofs.Common.{◌≡◌, ℕ, zero, suc, ◌+◌, ◌-◌, ◌*◌, ◌<◌, ◌≤◌, Bool, true, false, cond, not, ◌&&◌, ◌||◌, eqb, ltb, leb, ◌⊎◌, List, [], ◌∷◌, ◌++◌, length, get_or, take, drop, Some, None, Option, sym, refl, ap, ◌∙◌, subst, ap₂, inl, inr, ⊎_elim, le_refl, add-zero, add_assoc, arith, take_all, take-suc}
+use Rattle.std.proofs.Common.{◌≡◌, ℕ, zero, suc, ◌+◌, ◌-◌, ◌*◌, ◌<◌, ◌≤◌, Bool, true, false, cond, not, ◌||◌, eqb, ltb, List, [], ◌∷◌, ◌++◌, length, get_or, take, Some, None, Option, sym, refl, ap, ◌∙◌, subst, ap₂, le_refl, arith, take_all, take-suc}
 use native.Mathlib.Nat.{le_step}
 use Rattle.std.proofs.lemmas.Bool.{and_parts, and_from, ltb-true, lt-ltb, eqb-true, eq-eqb, ne_eqb}
 use Rattle.levels.specs.Rules.{Rules}
@@ -13,12 +13,12 @@ use Rattle.program.specs.declared.records.Variable.{Variable}
 use Rattle.program.specs.declared.records.Procedure.{Procedure}
 use Rattle.program.specs.declared.refusal.Refusal.{Refusal}
 use Rattle.program.specs.declared.refusal.Refusal.TheVariants.{Naming as BadNaming}
-use Rattle.typing.specs.Environment.{Environment, procedure_of, body_in}
-use Rattle.typing.specs.Faults.{known, node_record, variable_record, procedure_record, variables_in, procedures_in, variable_part, procedure_part, file_variables, file_procedures, file_nodes, environment, typed_node, typed_nodes, variable_fits, variable_fault, result_fits, parameters_fit, rises, body_stands, main_fits, procedure_rows, procedure_fault, record_fault, node_fault, times_named, is_body, name_fault, records_fault}
+use Rattle.typing.specs.Environment.{procedure_of, body_in}
+use Rattle.typing.specs.Faults.{known, variable_record, procedure_record, procedures_in, variable_part, procedure_part, file_variables, file_procedures, environment, typed_node, typed_nodes, variable_fits, variable_fault, result_fits, parameters_fit, rises, body_stands, main_fits, procedure_rows, procedure_fault, record_fault, node_fault, times_named, is_body, name_fault, records_fault}
 use Rattle.typing.specs.First.{or_else, unless, first, table}
 use Rattle.typing.specs.Formed.{times_child}
 use Rattle.typing.specs.Rows.{first_broken, node_rows}
-use Rattle.typing.specs.Typing.{NodeIs, VariableIs, ProcedureIs}
+use Rattle.typing.specs.Typing.{VariableIs, ProcedureIs}
 use Rattle.typing.specs.declared.classes.TypedNode.{TypedNode}
 use Rattle.typing.proofs.Checks.{ProcedureChecks, Sizes, Checks}
 use Rattle.typing.proofs.Files.{kind_from_reads}

@@ -1,5 +1,5 @@
 -- Which procedure a node belongs to: the running count of bodies is the procedure whose nodes have it.
-use Rattle.std.proofs.Common.{◌≡◌, ℕ, zero, suc, ◌<◌, ◌≤◌, Bool, true, false, cond, eqb, ◌⊎◌, List, length, get_or, Some, None, Option, sym, refl, ap, ◌∙◌, subst, inl, inr, ⊎_elim, zero-le, le_refl, le_of_suc-le-suc, eq-or-lt_of_le, arith}
+use Rattle.std.proofs.Common.{◌≡◌, ℕ, zero, suc, ◌<◌, ◌≤◌, Bool, true, false, cond, eqb, length, get_or, sym, refl, ap, ◌∙◌, subst, ⊎_elim, zero-le, le_refl, le_of_suc-le-suc, eq-or-lt_of_le, arith}
 use Rattle.std.proofs.lemmas.Bool.{eqb-true, eqb-false, eq-eqb, cases_order}
 use Rattle.program.specs.Program.{Program, at, no_procedure}
 use Rattle.program.specs.declared.records.Procedure.{Procedure}
@@ -7,7 +7,7 @@ use Rattle.typing.specs.Environment.{procedure_of, body_in}
 use Rattle.typing.specs.Faults.{is_body}
 use Rattle.typing.specs.Formed.{Belongs, IsBody}
 use Rattle.typing.specs.Typing.{ProcedureIs}
-use Rattle.typing.proofs.Tabled.{home, at_below, at_there, at_item, some_none}
+use Rattle.typing.proofs.Tabled.{home, at_there, at_item}
 
 module _
     (p : Program)

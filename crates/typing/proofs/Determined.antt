@@ -1,19 +1,16 @@
 -- A derivation for a node gives just the class that the table of typed nodes has.
-use Rattle.std.proofs.Common.{◌≡◌, ℕ, ◌<◌, List, Some, None, Option, sym, refl, ap, ◌∙◌, ap₂, inl, inr}
+use Rattle.std.proofs.Common.{◌≡◌, ℕ, ◌<◌, List, Some, None, Option, refl, ap, ◌∙◌, ap₂, inl, inr}
 use Rattle.words.specs.declared.types.DataType.{DataType}
 use Rattle.words.specs.declared.types.DataType.TheVariants.{Bool, Int}
 use Rattle.levels.specs.Rules.{Rules}
 use Rattle.program.specs.Program.{Program, children}
 use Rattle.program.specs.declared.records.Node.{Node}
-use Rattle.program.specs.declared.records.Node.TheVariants.{Constant, Variable, Minus, Not, Arithmetic, Comparison, And, Or, Choice, Assignment, Call, Argument as ArgumentNode, Release, Expression as ExpressionNode, Sequence, If, IfElse, While, DoWhile, Return, ReturnVoid, Break, Continue, Definition, Output}
 use Rattle.program.specs.declared.records.Variable.{Variable as VariableRecord}
-use Rattle.program.specs.declared.records.Procedure.{Procedure}
-use Rattle.typing.specs.Classes.{class_of, class_of_variable, class_of_call}
+use Rattle.typing.specs.Classes.{class_of_variable, class_of_call}
 use Rattle.typing.specs.Environment.{type_of, level_of, exits_of, type_in, level_in, exits_in, class_type, class_level, class_exits}
-use Rattle.typing.specs.Exits.{falling, returning, breaking, continuing, union, sequence_exits, loop_exits}
+use Rattle.typing.specs.Exits.{falling, union, sequence_exits, loop_exits}
 use Rattle.typing.specs.Formed.{Among}
-use Rattle.typing.specs.Typing.{NodeIs, Expression, Arguments, VoidCall, Statement, constant, variable, minus, not, arithmetic, comparison, and, or, choice, assignment, call, release, none, argument, void_call, expression, procedure_call, sequence, if, if_else, while, do_while, return, return_void, break, continue, definition, output}
-use Rattle.typing.specs.declared.classes.Class.{Class}
+use Rattle.typing.specs.Typing.{NodeIs, Expression, Arguments, VoidCall, Statement, constant, variable, minus, not, arithmetic, comparison, and, or, choice, assignment, call, release, argument, void_call, expression, procedure_call, sequence, if, if_else, while, do_while, return, return_void, break, continue, definition, output}
 use Rattle.typing.specs.declared.classes.Class.TheVariants.{Value, Argument, Statement as StatementClass}
 use Rattle.typing.specs.declared.classes.Exits.{Exits}
 use Rattle.typing.proofs.Tabled.{below, typed, seen, class_is}

@@ -1,6 +1,6 @@
 -- A program that passes every row is well formed and well typed.
-use Rattle.std.proofs.Common.{◌≡◌, ℕ, zero, suc, ◌+◌, ◌<◌, ◌≤◌, Bool, true, false, cond, not, ◌&&◌, ◌||◌, eqb, ltb, leb, ◌⊎◌, List, [], ◌∷◌, length, get_or, Some, None, Option, sym, refl, ap, ◌∙◌, subst, ap₂, inl, inr, ⊎_elim, le_refl, le_of_suc-le-suc, not-suc-le-zero, eq-or-lt_of_le, arith}
-use Rattle.std.proofs.lemmas.Bool.{and_parts, ltb-true, leb-true, le-leb, lt-ltb, eqb-true, eq-eqb, not-true, cases_Bool, both_ways}
+use Rattle.std.proofs.Common.{◌≡◌, ℕ, zero, suc, ◌+◌, ◌<◌, ◌≤◌, Bool, true, false, cond, not, ◌&&◌, ◌||◌, eqb, ltb, leb, List, [], ◌∷◌, length, get_or, Some, None, Option, sym, refl, ap, ◌∙◌, subst, ap₂, ⊎_elim, le_of_suc-le-suc, not-suc-le-zero, eq-or-lt_of_le, arith}
+use Rattle.std.proofs.lemmas.Bool.{and_parts, ltb-true, leb-true, le-leb, lt-ltb, eqb-true, eq-eqb, not-true}
 use Rattle.words.specs.declared.types.DataType.{DataType}
 use Rattle.words.specs.declared.types.DataType.TheVariants.{Bool as Boolean}
 use Rattle.levels.specs.Rules.{Rules}
@@ -15,21 +15,19 @@ use Rattle.program.specs.declared.records.Procedure.{Procedure}
 use Rattle.program.specs.declared.refusal.Refusal.{Refusal}
 use Rattle.typing.specs.Classes.{class_of, class_of_variable, class_of_call}
 use Rattle.typing.specs.Environment.{Environment, procedure_at, class_exits}
-use Rattle.typing.specs.Exits.{returning}
-use Rattle.typing.specs.Faults.{variable_fits, owner_fits, result_fits, void_fits, is_parameter_of, same_truth, owned_at, all_below, parameters_fit, main_fits, is_body}
+use Rattle.typing.specs.Faults.{variable_fits, owner_fits, void_fits, is_parameter_of, same_truth, owned_at, all_below, parameters_fit, is_body}
 use Rattle.typing.specs.Formed.{Owned, VariableFormed, Within, ProcedureFormed, Belongs, Among, times_child, IsBody, WellFormed}
-use Rattle.typing.specs.Rows.{passes, first_broken, refusal_of, node_rows, exits_fit, parts_fit, body_fits, body_exits_fit, is_absent, is_value, is_argument, is_statement, value_child, statement_child, argument_child, children_fit}
-use Rattle.typing.specs.Typing.{NodeIs, VariableIs, ProcedureIs, Ends, Statement, Body, WellTyped}
+use Rattle.typing.specs.Rows.{passes, first_broken, refusal_of, node_rows, parts_fit, body_fits, body_exits_fit, is_absent, is_value, is_argument, is_statement, value_child, statement_child, argument_child, children_fit}
+use Rattle.typing.specs.Typing.{NodeIs, VariableIs, ProcedureIs, Ends, Statement, WellTyped}
 use Rattle.typing.specs.declared.classes.Class.{Class}
 use Rattle.typing.specs.declared.classes.Exits.{Exits}
-use Rattle.typing.specs.declared.rows.NodeRow.{NodeRow}
 use Rattle.typing.specs.declared.rows.NodeRow.TheVariants.{Child as ChildRow, Scope, Call as Called, DataType as Typed, Level, Exits as Ended}
 use Rattle.typing.proofs.Rising.{all_below_at}
 use Rattle.typing.proofs.Tabled.{home, below, typed, class_is, at_below, at_there, at_item, some_none, false_true}
 use Rattle.typing.proofs.Complete.{Passes}
-use Rattle.typing.proofs.Sound.{Child, Derives, child, as_statement, all_derive, absent}
-use Rattle.typing.proofs.Belonging.{belongs, belongs_once, body_belongs, body_told, body_shown}
-use Rattle.typing.proofs.Checks.{ProcedureChecks, Checks}
+use Rattle.typing.proofs.Sound.{Child, child, as_statement, all_derive, absent}
+use Rattle.typing.proofs.Belonging.{belongs, belongs_once, body_belongs, body_told}
+use Rattle.typing.proofs.Checks.{Checks}
 
 -- ---- variables and procedures
 

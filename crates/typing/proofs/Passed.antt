@@ -1,10 +1,10 @@
 -- A program that is well formed and well typed passes every row.
-use Rattle.std.proofs.Common.{◌≡◌, ℕ, suc, ◌+◌, ◌<◌, ◌≤◌, Bool, true, false, cond, not, ◌&&◌, ◌||◌, eqb, ltb, leb, ◌⊎◌, List, length, get_or, Some, None, Option, sym, refl, ap, ◌∙◌, subst, ap₂, inl, inr, ⊎_elim, le_refl, arith}
-use Rattle.std.proofs.lemmas.Bool.{and_from, ltb-true, leb-true, le-leb, lt-ltb, eqb-true, eq-eqb, not_from_false, or_right, cases_Bool, both_ways, cases_eq, ne_eqb}
+use Rattle.std.proofs.Common.{◌≡◌, ℕ, suc, ◌+◌, ◌<◌, ◌≤◌, Bool, true, false, cond, not, ◌&&◌, ◌||◌, eqb, ltb, leb, length, get_or, Some, None, Option, sym, refl, ap, ◌∙◌, subst, ⊎_elim, arith}
+use Rattle.std.proofs.lemmas.Bool.{and_from, le-leb, lt-ltb, eqb-true, eq-eqb, not_from_false, cases_Bool, both_ways}
 use Rattle.words.specs.declared.types.DataType.{DataType}
 use Rattle.levels.specs.Rules.{Rules}
 use Rattle.program.proofs.Statements.{statement_node}
-use Rattle.program.specs.Program.{Program, at, children, no_node, no_variable, no_procedure}
+use Rattle.program.specs.Program.{Program, children, no_node, no_variable}
 use Rattle.program.specs.declared.records.Node.{Node}
 use Rattle.program.specs.declared.records.Role.{Role}
 use Rattle.program.specs.declared.records.Role.TheVariants.{Global, Input, Local, Parameter}
@@ -12,21 +12,20 @@ use Rattle.program.specs.declared.records.Variable.{Variable as VariableRecord}
 use Rattle.program.specs.declared.records.Procedure.{Procedure}
 use Rattle.program.specs.declared.refusal.Refusal.{Refusal}
 use Rattle.typing.specs.Classes.{class_of}
-use Rattle.typing.specs.Environment.{Environment, procedure_at, class_exits}
-use Rattle.typing.specs.Exits.{returning}
-use Rattle.typing.specs.Faults.{variable_fits, owner_fits, result_fits, void_fits, is_parameter_of, same_truth, owned_at, all_below, parameters_fit, main_fits, is_body}
-use Rattle.typing.specs.Formed.{Owned, VariableFormed, Within, ProcedureFormed, Belongs, Among, times_child, IsBody, WellFormed}
-use Rattle.typing.specs.Rows.{passes, first_broken, node_rows, exits_fit, parts_fit, body_fits, body_exits_fit, is_absent}
-use Rattle.typing.specs.Typing.{NodeIs, VariableIs, ProcedureIs, Ends, Statement, Body, WellTyped, expression, procedure_call, sequence, if, if_else, while, do_while, return, return_void, break, continue, definition, output}
+use Rattle.typing.specs.Environment.{procedure_at, class_exits}
+use Rattle.typing.specs.Faults.{variable_fits, owner_fits, void_fits, is_parameter_of, same_truth, owned_at, parameters_fit, is_body}
+use Rattle.typing.specs.Formed.{Owned, Among, times_child, WellFormed}
+use Rattle.typing.specs.Rows.{first_broken, node_rows, parts_fit, body_fits, body_exits_fit, is_absent}
+use Rattle.typing.specs.Typing.{NodeIs, VariableIs, ProcedureIs, Ends, Statement, WellTyped, expression, procedure_call, sequence, if, if_else, while, do_while, return, return_void, break, continue, definition, output}
 use Rattle.typing.specs.declared.classes.Class.{Class}
 use Rattle.typing.specs.declared.classes.Exits.{Exits}
 use Rattle.typing.proofs.Rising.{all_below_from}
-use Rattle.typing.proofs.Tabled.{home, below, typed, class_is, at_below, at_there, at_item, some_none, false_true}
+use Rattle.typing.proofs.Tabled.{home, below, class_is, at_below, at_there, false_true}
 use Rattle.typing.proofs.Complete.{Passes, Passing, expression_passes, void_passes, argument_node_passes, statement_passes}
 use Rattle.typing.proofs.Determined.{statement_class}
-use Rattle.typing.proofs.Belonging.{belongs, belongs_once, body_belongs, body_told, body_shown}
+use Rattle.typing.proofs.Belonging.{belongs, belongs_once, body_told, body_shown}
 use Rattle.typing.proofs.Reached.{Derived, expression_derived, void_derived, arguments_derived, statement_derived, reached}
-use Rattle.typing.proofs.Checks.{ProcedureChecks, Sizes, Checks}
+use Rattle.typing.proofs.Checks.{ProcedureChecks, Checks}
 use Rattle.typing.proofs.Forms.{parameter_told, within_told, within_shown}
 
 -- ---- variables and procedures

@@ -1,18 +1,17 @@
 -- In a well-formed program every node is reached from a body, so that the derivations for the bodies have one for it.
-use Rattle.std.proofs.Common.{◌≡◌, ℕ, zero, suc, ◌+◌, ◌<◌, ◌≤◌, Bool, true, false, cond, eqb, ◌⊎◌, List, [], ◌∷◌, length, get_or, Some, None, Option, sym, refl, ap, ◌∙◌, subst, inl, inr, ⊎_elim, suc-le-suc, arith}
-use Rattle.std.proofs.lemmas.Bool.{eqb-true, cases_Bool, both_ways}
+use Rattle.std.proofs.Common.{◌≡◌, ℕ, zero, suc, ◌+◌, ◌<◌, ◌≤◌, Bool, true, false, cond, eqb, List, [], ◌∷◌, length, get_or, Some, None, Option, sym, refl, subst, inl, inr, ⊎_elim, suc-le-suc, arith}
+use Rattle.std.proofs.lemmas.Bool.{eqb-true, cases_Bool}
 use Rattle.words.specs.declared.types.DataType.{DataType}
 use Rattle.levels.specs.Rules.{Rules}
 use Rattle.program.specs.Program.{Program, children, times_in, no_node}
 use Rattle.program.specs.declared.records.Node.{Node}
-use Rattle.program.specs.declared.records.Node.TheVariants.{Call, Argument as ArgumentNode}
+use Rattle.program.specs.declared.records.Node.TheVariants.{Call}
 use Rattle.program.specs.declared.records.Variable.{Variable as VariableRecord}
-use Rattle.program.specs.declared.records.Procedure.{Procedure}
 use Rattle.typing.specs.Faults.{is_body}
-use Rattle.typing.specs.Formed.{Among, Belongs, IsBody, times_child}
-use Rattle.typing.specs.Typing.{NodeIs, ProcedureIs, Body, WellTyped, parameters_of, Expression, Arguments, VoidCall, Statement, constant, variable, minus, not, arithmetic, comparison, and, or, choice, assignment, call, release, none, argument, void_call, expression, procedure_call, sequence, if, if_else, while, do_while, return, return_void, break, continue, definition, output}
+use Rattle.typing.specs.Formed.{Among, times_child}
+use Rattle.typing.specs.Typing.{NodeIs, parameters_of, Expression, Arguments, VoidCall, Statement, constant, variable, minus, not, arithmetic, comparison, and, or, choice, assignment, call, release, argument, void_call, expression, procedure_call, sequence, if, if_else, while, do_while, return, return_void, break, continue, definition, output}
 use Rattle.typing.specs.declared.classes.Exits.{Exits}
-use Rattle.typing.proofs.Tabled.{home, at_there, at_below, at_item}
+use Rattle.typing.proofs.Tabled.{home, at_there}
 
 -- node n of procedure q has a derivation, of whatever form
 pub data Derived (r : Rules) (p : Program) (q : ℕ) : ℕ → Type 0 where

@@ -1,6 +1,5 @@
 -- A file whose records, part by part, are those of a program.
-use Rattle.std.proofs.Common.{◌≡◌, ℕ, ◌*◌, ◌<◌, List, length, get_or, Some, Ok}
-use Rattle.program.specs.Encode.{node_encoded}
+use Rattle.std.proofs.Common.{◌≡◌, ℕ, ◌<◌, List, length, get_or, Some, Ok}
 use Rattle.program.specs.Layout.{layout_of}
 use Rattle.program.specs.Program.{Program, no_node, no_variable, no_procedure}
 use Rattle.program.specs.declared.layout.Layout.{Layout}

@@ -1,5 +1,5 @@
 -- Searches, tables and tests over rising numbers: one number further, and what a whole one says of each number.
-use Rattle.std.proofs.Common.{◌≡◌, ℕ, zero, suc, ◌+◌, ◌-◌, ◌*◌, ◌<◌, ◌≤◌, Bool, true, false, List, [], ◌∷◌, ◌++◌, length, get_or, drop, Some, None, Option, sym, refl, ap, ◌∙◌, subst, ⊎_elim, le_refl, le_of_suc-le-suc, not-suc-le-zero, suc-add, eq-or-lt_of_le, zero-add, mul-one, mul-add, add-one, arith, length-append, drop-drop}
+use Rattle.std.proofs.Common.{◌≡◌, ℕ, zero, suc, ◌+◌, ◌-◌, ◌*◌, ◌<◌, Bool, true, false, List, [], ◌∷◌, ◌++◌, length, get_or, drop, Some, None, Option, sym, refl, ap, ◌∙◌, subst, ⊎_elim, le_refl, le_of_suc-le-suc, not-suc-le-zero, suc-add, eq-or-lt_of_le, zero-add, mul-one, mul-add, add-one, arith, length-append, drop-drop}
 use native.Mathlib.Nat.{le_step}
 use lib.Seq.{get_or_at}
 use Rattle.std.proofs.lemmas.List.{get_or_append_left}

@@ -1,5 +1,5 @@
 -- A node that passes the rows, above nodes with derivations, has a derivation.
-use Rattle.std.proofs.Common.{◌≡◌, ℕ, zero, suc, ◌+◌, ◌<◌, ◌≤◌, Bool, true, false, cond, not as negate, ◌&&◌, ◌||◌, eqb, ltb, List, [], ◌∷◌, length, get_or, take, drop, Some, None, Option, sym, refl, ap, ◌∙◌, subst, ap₂, inl, inr, le_refl, not-suc-le-zero, arith, drop-cons}
+use Rattle.std.proofs.Common.{◌≡◌, ℕ, zero, suc, ◌+◌, ◌<◌, ◌≤◌, Bool, true, false, cond, not as negate, ◌&&◌, ◌||◌, eqb, ltb, List, [], length, get_or, take, drop, Some, None, Option, sym, refl, ap, ◌∙◌, subst, le_refl, not-suc-le-zero, arith, drop-cons}
 use Rattle.std.proofs.lemmas.Bool.{ltb-true, eqb-true, and_parts}
 use Rattle.words.specs.Numbers.{type_number}
 use Rattle.words.specs.declared.types.DataType.{DataType}
@@ -7,7 +7,7 @@ use Rattle.words.specs.declared.types.DataType.TheVariants.{Bool as Boolean, Int
 use Rattle.words.specs.declared.types.Comparison.{Comparison as Order}
 use Rattle.words.specs.declared.types.Comparison.TheVariants.{Equal, NotEqual, Less, LessOrEqual, Greater, GreaterOrEqual}
 use Rattle.levels.specs.Rules.{Rules}
-use Rattle.program.specs.Program.{Program, at, children, no_node, no_variable}
+use Rattle.program.specs.Program.{Program, no_node, no_variable}
 use Rattle.program.specs.declared.records.Node.{Node}
 use Rattle.program.specs.declared.records.Node.TheVariants.{Constant, Variable, Minus, Not, Arithmetic, Comparison, And, Or, Choice, Assignment, Call, Argument as ArgumentNode, Release, Expression as ExpressionNode, Sequence, If, IfElse, While, DoWhile, Return, ReturnVoid, Break, Continue, Definition, Output}
 use Rattle.program.specs.declared.records.Role.{Role}
@@ -15,17 +15,17 @@ use Rattle.program.specs.declared.records.Role.TheVariants.{Global, Input, Local
 use Rattle.program.specs.declared.records.Variable.{Variable as VariableRecord}
 use Rattle.program.specs.declared.records.Procedure.{Procedure}
 use Rattle.typing.specs.Classes.{class_of, class_of_variable, class_of_call}
-use Rattle.typing.specs.Environment.{Environment, node_at, variable_at, procedure_at, procedure_of, type_of, level_of, exits_of, type_in, level_in, exits_in, class_type, class_level, class_exits}
+use Rattle.typing.specs.Environment.{node_at, variable_at, procedure_at, type_of, level_of, exits_of, type_in, level_in, exits_in, class_type, class_level, class_exits}
 use Rattle.typing.specs.Exits.{falling, returning}
-use Rattle.typing.specs.Rows.{child_class, class_within, is_value, is_argument, is_statement, value_child, statement_child, argument_child, readable, readable_role, assignable, assignable_role, definable, definable_role, agree, variable_type, variable_level, argument_fits, argument_at, argument_in, argument_node, first_argument_fits, next_argument, arguments_fit, call_fits, numeric, is_equality, arithmetic_takes, comparison_takes, result_of, is_void, is_absent, is_bool, is_public, result_level, repeats}
-use Rattle.typing.specs.Typing.{NodeIs, VariableIs, ProcedureIs, Readable, Assignable, Definable, Numeric, Comparable, parameters_of, Expression, Arguments, VoidCall, Statement, constant, variable, minus, not, arithmetic, comparison, and, or, choice, assignment, call, release, none, argument, void_call, expression, procedure_call, sequence, if, if_else, while, do_while, return, return_void, break, continue, definition, output}
+use Rattle.typing.specs.Rows.{child_class, class_within, is_value, is_argument, is_statement, value_child, statement_child, argument_child, readable, readable_role, assignable, assignable_role, definable, definable_role, agree, variable_type, variable_level, argument_fits, argument_in, argument_node, first_argument_fits, next_argument, arguments_fit, call_fits, numeric, is_equality, arithmetic_takes, comparison_takes, result_of, is_void, is_absent, is_bool, is_public, result_level}
+use Rattle.typing.specs.Typing.{NodeIs, ProcedureIs, Readable, Assignable, Definable, Numeric, Comparable, parameters_of, Expression, Arguments, VoidCall, Statement, constant, variable, minus, not, arithmetic, comparison, and, or, choice, assignment, call, release, none, argument, void_call, expression, procedure_call, sequence, if, if_else, while, do_while, return, return_void, break, continue, definition, output}
 use Rattle.typing.specs.declared.classes.Class.{Class}
 use Rattle.typing.specs.declared.classes.Class.TheVariants.{Value, Argument, Statement as StatementClass}
 use Rattle.typing.specs.declared.classes.Exits.{Exits}
 use Rattle.typing.specs.declared.classes.TypedNode.{TypedNode}
 use Rattle.typing.specs.declared.rows.ArgumentTest.{ArgumentTest}
-use Rattle.typing.specs.declared.rows.ArgumentTest.TheVariants.{Number, DataType as Types, Level as Levels}
-use Rattle.typing.proofs.Tabled.{home, below, typed, seen, node_is, class_is, procedure_is, at_below, at_there, at_item, some_none, false_true}
+use Rattle.typing.specs.declared.rows.ArgumentTest.TheVariants.{DataType as Types, Level as Levels}
+use Rattle.typing.proofs.Tabled.{home, below, typed, seen, node_is, class_is, procedure_is, at_there, some_none, false_true}
 use Rattle.typing.proofs.Complete.{Passes}
 
 -- ---- what single tests tell

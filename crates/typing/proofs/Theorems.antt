@@ -1,5 +1,5 @@
 -- The theorems on acceptance: the rows decide it, and what it gives.
-use Rattle.std.proofs.Common.{◌≡◌, ℕ, zero, suc, ◌+◌, ◌*◌, ◌<◌, ◌≤◌, Bool, true, false, cond, eqb, ltb, ◌⊎◌, List, [], ◌∷◌, length, get_or, drop, is_ok, Some, None, Ok, Err, Option, Result, sym, refl, ap, ◌∙◌, subst, inl, inr, ⊎_elim, le_of_suc-le-suc, not-suc-le-zero, arith}
+use Rattle.std.proofs.Common.{◌≡◌, ℕ, zero, suc, ◌+◌, ◌*◌, ◌<◌, ◌≤◌, Bool, true, false, cond, ltb, List, [], ◌∷◌, length, get_or, drop, is_ok, Some, None, Ok, Err, Option, Result, sym, refl, ap, ◌∙◌, subst, inl, inr, ⊎_elim, le_of_suc-le-suc, not-suc-le-zero, arith}
 use Rattle.std.proofs.lemmas.Bool.{and_parts, ltb-true, eq-eqb, cases_order}
 use Rattle.words.specs.declared.types.DataType.{DataType}
 use Rattle.words.specs.declared.types.DataType.TheVariants.{Bool as Boolean}
@@ -13,18 +13,15 @@ use Rattle.program.specs.Layout.{layout_of}
 use Rattle.program.specs.Program.{Program, children, times_in, no_node, no_variable, no_procedure}
 use Rattle.program.specs.declared.layout.Layout.{Layout}
 use Rattle.program.specs.declared.records.Node.{Node}
-use Rattle.program.specs.declared.records.Node.TheVariants.{Constant, Call, Argument}
-use Rattle.program.specs.declared.records.Variable.{Variable}
+use Rattle.program.specs.declared.records.Node.TheVariants.{Constant, Call}
 use Rattle.program.specs.declared.records.Procedure.{Procedure}
 use Rattle.program.specs.declared.refusal.Refusal.{Refusal}
 use Rattle.typing.specs.Environment.{Environment}
-use Rattle.typing.specs.Faults.{known, node_record, variable_record, procedure_record, variable_part, procedure_part, file_variables, file_procedures, file_nodes, variable_fits, variable_fault, result_fits, procedure_rows, procedure_fault, record_fault, node_fault, name_fault, records_fault, layout_fault, first_fault, verdict_by, verdict_of}
-use Rattle.typing.specs.First.{or_else, unless, first, table}
-use Rattle.typing.specs.Acceptance.{Bytes, DecidesAcceptance, Unique, Shaped, SoundAcceptance}
+use Rattle.typing.specs.Faults.{known, node_record, variable_record, procedure_record, variable_part, procedure_part, file_variables, file_procedures, variable_fits, variable_fault, result_fits, procedure_fault, record_fault, node_fault, records_fault, layout_fault, first_fault, verdict_by, verdict_of}
+use Rattle.typing.specs.First.{unless, first, table}
+use Rattle.typing.specs.Acceptance.{Bytes, DecidesAcceptance, Unique, SoundAcceptance}
 use Rattle.typing.specs.Formed.{Belongs, Among, times_child, IsBody, WellFormed, Accepted}
-use Rattle.typing.specs.Typing.{NodeIs, VariableIs, ProcedureIs, Expression, Statement, WellTyped, constant, variable, minus, not, arithmetic, comparison, and, or, choice, assignment, call, release}
-use Rattle.typing.specs.declared.classes.Class.TheVariants.{Value, Statement as StatementClass}
-use Rattle.typing.specs.declared.classes.Exits.{Exits}
+use Rattle.typing.specs.Typing.{NodeIs, ProcedureIs, Expression, WellTyped, constant, variable, minus, not, arithmetic, comparison, and, or, choice, assignment, call, release}
 use Rattle.typing.proofs.Acceptance.{passed, checks_from_faults, faults_from_checks}
 use Rattle.typing.proofs.Belonging.{belongs, belongs_once, body_belongs}
 use Rattle.typing.proofs.Checks.{Sizes, Checks}

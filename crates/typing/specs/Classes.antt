@@ -1,6 +1,5 @@
 -- The class of each node, from the classes of its children. Assumes nothing.
-use Rattle.std.specs.Prelude.{ℕ, List, Some, None, Option}
-use Rattle.words.specs.declared.types.DataType.{DataType}
+use Rattle.std.specs.Prelude.{ℕ, Some, None, Option}
 use Rattle.words.specs.declared.types.DataType.TheVariants.{Bool, Int}
 use Rattle.levels.specs.Rules.{Rules}
 use Rattle.program.specs.declared.records.Node.{Node}

@@ -1,5 +1,5 @@
 -- What is known of a program where one of its nodes is checked. Assumes nothing.
-use Rattle.std.specs.Prelude.{ℕ, zero, suc, Bool, true, false, cond, List, Some, None, Option, ◌==◌}
+use Rattle.std.specs.Prelude.{ℕ, zero, suc, cond, List, Some, None, Option, ◌==◌}
 use Rattle.words.specs.declared.types.DataType.{DataType}
 use Rattle.program.specs.Program.{at, no_node, no_variable, no_procedure}
 use Rattle.program.specs.declared.records.Variable.{Variable}

@@ -1,5 +1,5 @@
 -- Sets of ways in which a statement may end. Assumes nothing.
-use Rattle.std.specs.Prelude.{Bool, true, false, ◌||◌}
+use Rattle.std.specs.Prelude.{true, false, ◌||◌}
 use Rattle.typing.specs.declared.classes.Exits.{Exits}
 
 abbrev pub falling : Exits

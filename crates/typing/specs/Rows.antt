@@ -1,6 +1,6 @@
 -- The rows that refuse a decoded node, one definition each. Assumes nothing.
 -- A row is passed by node n of procedure q at place k in the environment e.
-use Rattle.std.specs.Prelude.{ℕ, zero, suc, ◌+◌, Bool, true, false, cond, not, ◌&&◌, ◌||◌, List, [], ◌∷◌, Some, None, Option, ◌==◌, nat_lt}
+use Rattle.std.specs.Prelude.{ℕ, zero, suc, Bool, true, false, cond, not, ◌&&◌, ◌||◌, List, [], ◌∷◌, Some, None, Option, ◌==◌, nat_lt}
 use Rattle.words.specs.Numbers.{type_number}
 use Rattle.words.specs.declared.types.DataType.{DataType}
 use Rattle.words.specs.declared.types.DataType.TheVariants.{Bool as Boolean, Int, Unsigned}

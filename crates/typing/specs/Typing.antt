@@ -1,6 +1,6 @@
 -- The typing rules of the language, as derivations over the nodes of a program. Assumes nothing.
 -- In procedure q, node n is an expression of a data type and a level, the arguments of a call fit its parameters, and a statement has its exits.
-use Rattle.std.specs.Prelude.{◌≡◌, ℕ, ◌<◌, true, false, ◌||◌, List, [], ◌∷◌, length, take, drop, Some, None, Option}
+use Rattle.std.specs.Prelude.{◌≡◌, ℕ, ◌<◌, true, false, ◌||◌, List, [], ◌∷◌, take, drop, Some, None, Option}
 use Rattle.words.specs.declared.types.DataType.{DataType}
 use Rattle.words.specs.declared.types.DataType.TheVariants.{Bool, Int, Unsigned}
 use Rattle.words.specs.declared.types.Arithmetic.{Arithmetic as Operator}

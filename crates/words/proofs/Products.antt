@@ -1,7 +1,7 @@
 -- The product of two words, wrapped, is the word of the product of the integers that they stand for.
 use Rattle.std.proofs.Common.{◌≡◌, ℕ, ◌*◌, ◌%◌, ◌^◌, ◌<◌, ℤ, pos, negsuc, ◌*ℤ◌, nat_abs, sym, refl, ap, ◌∙◌, ap₂, arith, w32, to_z, of_z, rules}
 use Rattle.std.specs.Int.{int_rem_euclid, int_wrap}
-use Rattle.std.proofs.lemmas.Int.{ints, of_z-to_z, wrapping_mul-bits}
+use Rattle.std.proofs.lemmas.Int.{of_z-to_z, wrapping_mul-bits}
 use Rattle.words.specs.Ints.{int_of, word_of}
 use Rattle.words.specs.Operators.{value_at}
 use Rattle.words.specs.declared.types.DataType.{DataType}

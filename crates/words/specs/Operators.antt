@@ -1,5 +1,5 @@
 -- What each operator gives on words. Assumes nothing.
-use Rattle.std.specs.Prelude.{ℕ, Bool, true, false, cond, not, ◌&&◌, ◌||◌, ℤ, pos, ◌+ℤ◌, ◌-ℤ◌, ◌*ℤ◌, neg_ℤ, Some, None, Option, ◌==◌, int_div, int_le, int_lt, int_rem}
+use Rattle.std.specs.Prelude.{ℕ, Bool, false, cond, not, ◌&&◌, ◌||◌, ℤ, pos, ◌+ℤ◌, ◌-ℤ◌, ◌*ℤ◌, neg_ℤ, Some, None, Option, ◌==◌, int_div, int_le, int_lt, int_rem}
 use Rattle.std.specs.Option.{unwrap_or}
 use Rattle.words.specs.Ints.{int_of, word_of}
 use Rattle.words.specs.declared.types.DataType.{DataType}

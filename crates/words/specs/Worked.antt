@@ -1,7 +1,7 @@
 -- Worked cases of the operators. Assumes nothing.
-use Rattle.std.specs.Prelude.{◌≡◌, ℕ, ◌-◌, ◌^◌, pos, neg_ℤ, Some}
+use Rattle.std.specs.Prelude.{◌≡◌, ℕ, ◌^◌, pos, neg_ℤ, Some}
 use Rattle.words.specs.Ints.{word_of}
-use Rattle.words.specs.Operators.{arithmetic_word, held_arithmetic_word, comparison_word}
+use Rattle.words.specs.Operators.{arithmetic_word, comparison_word}
 use Rattle.words.specs.declared.types.DataType.TheVariants.{Int, Unsigned}
 use Rattle.words.specs.declared.types.Arithmetic.TheVariants.{Add, Subtract, Divide, Remainder}
 use Rattle.words.specs.declared.types.Comparison.TheVariants.{Less}

@@ -1,6 +1,5 @@
-use Rattle.std.proofs.Common.{◌≡◌, ◌-◌, ◌<◌, ◌≤◌, length, drop, Some, vec_items, sym, ap, ◌∙◌, append-nil, arith, length-drop, take_all, rules}
+use Rattle.std.proofs.Common.{◌-◌, ◌<◌, ◌≤◌, length, drop, Some, vec_items, sym, ap, ◌∙◌, append-nil, arith, length-drop, take_all, rules}
 use Rattle.commands.proofs.Digits.{onto_more, onto_broken, onto_all, onto_odd}
-use Rattle.commands.specs.Files.{bytes_of}
 use Rattle.commands.proofs.files.decode_digits.Goals as goal
 
 pub returns-in_default-byte : goal.returns-in_default-byte

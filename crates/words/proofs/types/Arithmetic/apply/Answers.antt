@@ -1,4 +1,4 @@
-use Rattle.std.proofs.Common.{◌≡◌, sym, refl, ap, ◌∙◌, rules}
+use Rattle.std.proofs.Common.{rules}
 use Rattle.words.proofs.Products.{product_word}
 use Rattle.words.proofs.types.Arithmetic.apply.Goals as goal
 
