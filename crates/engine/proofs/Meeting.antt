@@ -16,7 +16,6 @@ use Rattle.engine.specs.declared.frames.Entry.{Entry}
 use Rattle.engine.specs.declared.frames.Entry.TheVariants.{Frame as Framed, Passed}
 use Rattle.engine.specs.declared.frames.Frame.{Frame}
 use Rattle.engine.specs.declared.frames.Frame.TheVariants.{Wait, Then, Loop, Calling, Running}
-use Rattle.engine.specs.declared.frames.Move.{Move}
 use Rattle.engine.specs.declared.frames.Move.TheVariants.{Under}
 use Rattle.engine.specs.declared.frames.Next.{Next}
 use Rattle.engine.specs.declared.frames.Next.TheVariants.{Begin, Ended}

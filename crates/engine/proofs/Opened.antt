@@ -1,5 +1,5 @@
 -- What a machine is made of: tables that are ready, and cells that are 0.
-use Rattle.std.proofs.Common.{◌≡◌, ℕ, suc, ◌+◌, ◌-◌, ◌<◌, ◌≤◌, true, List, [], reverse, length, get_or, drop, IfOk, Ok, Err, Result, sym, ap, ◌∙◌, subst, add-one, arith, drop-cons}
+use Rattle.std.proofs.Common.{◌≡◌, ℕ, suc, ◌+◌, ◌<◌, ◌≤◌, true, List, [], reverse, length, get_or, drop, IfOk, Ok, Err, Result, sym, ap, ◌∙◌, subst, add-one, arith, drop-cons}
 use Rattle.std.proofs.lemmas.List.{drop_all}
 use Rattle.std.proofs.lemmas.Bool.{lt-ltb}
 use Rattle.holding.specs.declared.shares.Counts.{Counts}

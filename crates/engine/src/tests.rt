@@ -9,6 +9,7 @@ use holding::split::SplitHolding;
 use semantics::values::Value;
 use std::alloc::{AllocError, Global};
 use std::process::Abort;
+use std::test::Fail;
 use words::types::DataType;
 
 mod files;
