@@ -2,7 +2,7 @@
 ghost use Rattle.std.specs.Prelude.{◌≡◌};
 ghost use Rattle.words.specs.Operators.{minus_word, not_word, and_word, or_word, held_arithmetic_word, comparison_word};
 ghost use Rattle.holding.specs.Counts.{none_yet};
-ghost use Rattle.holding.specs.Splitting.{shares_sum, shares_difference, next_mask, two_draws, shared, after_put, after_op};
+ghost use Rattle.holding.specs.Splitting.{next_mask, two_draws, shared, after_put, after_op};
 ghost use Rattle.holding.specs.Stands.{sum_of};
 ghost use Rattle.std.proofs.Common.{rules};
 
@@ -18,25 +18,17 @@ pub struct SplitHolding {
     counts: Counts,
 }
 
-// The sum, share by share.
-fn sum(x: Shares, y: Shares) -> Shares
-    ensures { result ≡ shares_sum x y }
+// An operator on words, share by share.
+fn by_share<F: Fn(u32, u32) -> u32>(x: Shares, y: Shares, operator: F) -> Shares
+    requires { F.IsAlwaysCallable operator }
+    ensures first { F.post operator x.first y.first result.first }
+    ensures second { F.post operator x.second y.second result.second }
+    ensures third { F.post operator x.third y.third result.third }
 {
     Shares {
-        first: x.first.wrapping_add(y.first),
-        second: x.second.wrapping_add(y.second),
-        third: x.third.wrapping_add(y.third),
-    }
-}
-
-// The difference, share by share.
-fn difference(x: Shares, y: Shares) -> Shares
-    ensures { result ≡ shares_difference x y }
-{
-    Shares {
-        first: x.first.wrapping_sub(y.first),
-        second: x.second.wrapping_sub(y.second),
-        third: x.third.wrapping_sub(y.third),
+        first: operator(x.first, y.first),
+        second: operator(x.second, y.second),
+        third: operator(x.third, y.third),
     }
 }
 
@@ -111,7 +103,7 @@ impl Holding for SplitHolding {
         ensures shares { result ≡ shared self.old.mask (minus_word (sum_of x)) }
         ensures after { self.new ≡ after_op self.old }
     {
-        self.hold_result(difference(Shares::alone(0), x))
+        self.hold_result(by_share(Shares::alone(0), x, |a, b| a.wrapping_sub(b)))
     }
 
     fn not(&mut self, x: Shares) -> Shares
@@ -136,8 +128,8 @@ impl Holding for SplitHolding {
         ensures after { self.new ≡ after_op self.old }
     {
         match operator {
-            Arithmetic::Add => self.hold_result(sum(x, y)),
-            Arithmetic::Subtract => self.hold_result(difference(x, y)),
+            Arithmetic::Add => self.hold_result(by_share(x, y, |a, b| a.wrapping_add(b))),
+            Arithmetic::Subtract => self.hold_result(by_share(x, y, |a, b| a.wrapping_sub(b))),
             Arithmetic::Multiply | Arithmetic::Divide | Arithmetic::Remainder => {
                 let word = operator.apply_held(data_type, self.take_out(x), self.take_out(y));
                 self.hold_result(Shares::alone(word))

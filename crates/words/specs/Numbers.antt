@@ -1,5 +1,7 @@
 -- The numbers of data types and operators in program files. Assumes nothing.
-use Rattle.std.specs.Prelude.{ℕ, cond, Some, None, Option, ◌==◌}
+use Rattle.std.specs.Prelude.{ℕ, cond, Some, None, Option, Result, ◌==◌}
+use Rattle.std.specs.Option.{ok_or}
+use Rattle.words.specs.declared.numbers.UnknownNumber.{UnknownNumber}
 use Rattle.words.specs.declared.types.DataType.{DataType}
 use Rattle.words.specs.declared.types.DataType.TheVariants.{Bool, Int, Unsigned}
 use Rattle.words.specs.declared.types.Arithmetic.{Arithmetic}
@@ -38,3 +40,7 @@ comparison_number GreaterOrEqual = 5
 abbrev pub comparison_numbered : ℕ → Option Comparison
 comparison_numbered n =
     cond (n == 0) (Some Equal) (cond (n == 1) (Some NotEqual) (cond (n == 2) (Some Less) (cond (n == 3) (Some LessOrEqual) (cond (n == 4) (Some Greater) (cond (n == 5) (Some GreaterOrEqual) None)))))
+
+-- what a number stands for, where it does for something, or else the number
+abbrev pub found : {X : Type 0} → ℕ → Option X → Result X UnknownNumber
+found n x = ok_or x (record { 0 = n })

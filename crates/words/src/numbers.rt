@@ -1,39 +1,49 @@
 // The number of each data type and operator in program files.
 ghost use Rattle.std.specs.Prelude.{◌≡◌, Some};
-ghost use Rattle.words.specs.Numbers.{type_number, type_numbered, arithmetic_number, arithmetic_numbered, comparison_number, comparison_numbered};
+ghost use Rattle.words.specs.Numbers.{type_number, type_numbered, arithmetic_number, arithmetic_numbered, comparison_number, comparison_numbered, found};
 
 use crate::types::{Arithmetic, Comparison, DataType};
 
-impl DataType {
-    pub fn number(self) -> u8
-        ensures value { result ≡ type_number self }
-        ensures back { type_numbered result ≡ Some self }
+// A number that stands for no data type, or for no operator.
+#[derive(Clone, Copy, PartialEq, Eq, Debug)]
+pub struct UnknownNumber(pub u8);
+
+impl From<DataType> for u8 {
+    ghost from_gives = { λ data_type n. n ≡ type_number data_type };
+
+    fn from(data_type: DataType) -> u8
+        ensures back { type_numbered result ≡ Some data_type }
     {
-        match self {
+        match data_type {
             DataType::Bool => 0,
             DataType::Int => 1,
             DataType::Unsigned => 2,
         }
     }
+}
 
-    pub fn from_number(n: u8) -> Option<DataType>
-        ensures { result ≡ type_numbered n }
-    {
+impl TryFrom<u8> for DataType {
+    type Error = UnknownNumber;
+
+    ghost try_from_gives = { λ n r. r ≡ found n (type_numbered n) };
+
+    fn try_from(n: u8) -> Result<DataType, UnknownNumber> {
         match n {
-            0 => Some(DataType::Bool),
-            1 => Some(DataType::Int),
-            2 => Some(DataType::Unsigned),
-            _ => None,
+            0 => Ok(DataType::Bool),
+            1 => Ok(DataType::Int),
+            2 => Ok(DataType::Unsigned),
+            _ => Err(UnknownNumber(n)),
         }
     }
 }
 
-impl Arithmetic {
-    pub fn number(self) -> u8
-        ensures value { result ≡ arithmetic_number self }
-        ensures back { arithmetic_numbered result ≡ Some self }
+impl From<Arithmetic> for u8 {
+    ghost from_gives = { λ operator n. n ≡ arithmetic_number operator };
+
+    fn from(operator: Arithmetic) -> u8
+        ensures back { arithmetic_numbered result ≡ Some operator }
     {
-        match self {
+        match operator {
             Arithmetic::Add => 0,
             Arithmetic::Subtract => 1,
             Arithmetic::Multiply => 2,
@@ -41,27 +51,32 @@ impl Arithmetic {
             Arithmetic::Remainder => 4,
         }
     }
+}
 
-    pub fn from_number(n: u8) -> Option<Arithmetic>
-        ensures { result ≡ arithmetic_numbered n }
-    {
+impl TryFrom<u8> for Arithmetic {
+    type Error = UnknownNumber;
+
+    ghost try_from_gives = { λ n r. r ≡ found n (arithmetic_numbered n) };
+
+    fn try_from(n: u8) -> Result<Arithmetic, UnknownNumber> {
         match n {
-            0 => Some(Arithmetic::Add),
-            1 => Some(Arithmetic::Subtract),
-            2 => Some(Arithmetic::Multiply),
-            3 => Some(Arithmetic::Divide),
-            4 => Some(Arithmetic::Remainder),
-            _ => None,
+            0 => Ok(Arithmetic::Add),
+            1 => Ok(Arithmetic::Subtract),
+            2 => Ok(Arithmetic::Multiply),
+            3 => Ok(Arithmetic::Divide),
+            4 => Ok(Arithmetic::Remainder),
+            _ => Err(UnknownNumber(n)),
         }
     }
 }
 
-impl Comparison {
-    pub fn number(self) -> u8
-        ensures value { result ≡ comparison_number self }
-        ensures back { comparison_numbered result ≡ Some self }
+impl From<Comparison> for u8 {
+    ghost from_gives = { λ operator n. n ≡ comparison_number operator };
+
+    fn from(operator: Comparison) -> u8
+        ensures back { comparison_numbered result ≡ Some operator }
     {
-        match self {
+        match operator {
             Comparison::Equal => 0,
             Comparison::NotEqual => 1,
             Comparison::Less => 2,
@@ -70,18 +85,22 @@ impl Comparison {
             Comparison::GreaterOrEqual => 5,
         }
     }
+}
 
-    pub fn from_number(n: u8) -> Option<Comparison>
-        ensures { result ≡ comparison_numbered n }
-    {
+impl TryFrom<u8> for Comparison {
+    type Error = UnknownNumber;
+
+    ghost try_from_gives = { λ n r. r ≡ found n (comparison_numbered n) };
+
+    fn try_from(n: u8) -> Result<Comparison, UnknownNumber> {
         match n {
-            0 => Some(Comparison::Equal),
-            1 => Some(Comparison::NotEqual),
-            2 => Some(Comparison::Less),
-            3 => Some(Comparison::LessOrEqual),
-            4 => Some(Comparison::Greater),
-            5 => Some(Comparison::GreaterOrEqual),
-            _ => None,
+            0 => Ok(Comparison::Equal),
+            1 => Ok(Comparison::NotEqual),
+            2 => Ok(Comparison::Less),
+            3 => Ok(Comparison::LessOrEqual),
+            4 => Ok(Comparison::Greater),
+            5 => Ok(Comparison::GreaterOrEqual),
+            _ => Err(UnknownNumber(n)),
         }
     }
 }

@@ -11,7 +11,7 @@ use crate::types::{Arithmetic, Comparison, DataType};
 pub fn minus(a: u32) -> u32
     ensures { result ≡ minus_word a }
 {
-    0u32.wrapping_sub(a)
+    a.wrapping_neg()
 }
 
 pub fn not(a: u32) -> u32
@@ -32,42 +32,26 @@ pub fn or(a: u32, b: u32) -> u32
     u32::from((a != 0) | (b != 0))
 }
 
-fn quotient(data_type: DataType, a: u32, b: u32) -> Option<u32>
-    ensures { result ≡ arithmetic_word Divided data_type a b }
-{
-    if b == 0 {
-        return None;
-    }
-    match data_type {
-        DataType::Int => Some(word_of_int(int_of_word(a).wrapping_div(int_of_word(b)))),
-        DataType::Bool | DataType::Unsigned => Some(a / b),
-    }
-}
-
-fn remainder(data_type: DataType, a: u32, b: u32) -> Option<u32>
-    ensures { result ≡ arithmetic_word Rest data_type a b }
-{
-    if b == 0 {
-        return None;
-    }
-    match data_type {
-        DataType::Int => Some(word_of_int(int_of_word(a).wrapping_rem(int_of_word(b)))),
-        DataType::Bool | DataType::Unsigned => Some(a % b),
-    }
-}
-
 impl Arithmetic {
     // The operator's word, or none for a quotient or a remainder by zero.
+    #[tactic(auto, using(crate::proofs::Products::product_word))]
     pub fn apply(self, data_type: DataType, a: u32, b: u32) -> Option<u32>
         ensures value { result ≡ arithmetic_word self data_type a b }
         ensures cases { ArithmeticCases }
     {
-        match self {
-            Arithmetic::Add => Some(a.wrapping_add(b)),
-            Arithmetic::Subtract => Some(a.wrapping_sub(b)),
-            Arithmetic::Multiply => Some(a.wrapping_mul(b)),
-            Arithmetic::Divide => quotient(data_type, a, b),
-            Arithmetic::Remainder => remainder(data_type, a, b),
+        match (self, data_type) {
+            (Arithmetic::Add, _) => Some(a.wrapping_add(b)),
+            (Arithmetic::Subtract, _) => Some(a.wrapping_sub(b)),
+            (Arithmetic::Multiply, _) => Some(a.wrapping_mul(b)),
+            (Arithmetic::Divide | Arithmetic::Remainder, _) if b == 0 => None,
+            (Arithmetic::Divide, DataType::Int) => Some(word_of_int(int_of_word(a).wrapping_div(
+                int_of_word(b),
+            ))),
+            (Arithmetic::Divide, DataType::Bool | DataType::Unsigned) => Some(a / b),
+            (Arithmetic::Remainder, DataType::Int) => Some(word_of_int(int_of_word(a).wrapping_rem(
+                int_of_word(b),
+            ))),
+            (Arithmetic::Remainder, DataType::Bool | DataType::Unsigned) => Some(a % b),
         }
     }
 
