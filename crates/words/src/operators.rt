@@ -44,13 +44,15 @@ impl Arithmetic {
             (Arithmetic::Subtract, _) => Some(a.wrapping_sub(b)),
             (Arithmetic::Multiply, _) => Some(a.wrapping_mul(b)),
             (Arithmetic::Divide | Arithmetic::Remainder, _) if b == 0 => None,
-            (Arithmetic::Divide, DataType::Int) => Some(word_of_int(int_of_word(a).wrapping_div(
-                int_of_word(b),
-            ))),
+            (Arithmetic::Divide, DataType::Int) => {
+                let quotient = int_of_word(a).wrapping_div(int_of_word(b));
+                Some(word_of_int(quotient))
+            }
             (Arithmetic::Divide, DataType::Bool | DataType::Unsigned) => Some(a / b),
-            (Arithmetic::Remainder, DataType::Int) => Some(word_of_int(int_of_word(a).wrapping_rem(
-                int_of_word(b),
-            ))),
+            (Arithmetic::Remainder, DataType::Int) => {
+                let remainder = int_of_word(a).wrapping_rem(int_of_word(b));
+                Some(word_of_int(remainder))
+            }
             (Arithmetic::Remainder, DataType::Bool | DataType::Unsigned) => Some(a % b),
         }
     }
