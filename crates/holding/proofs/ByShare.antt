@@ -1,6 +1,5 @@
 -- A sum or a difference made share by share stands for that of the words, at every data type.
-use mathlib.Core.Path.{◌≡◌}
-use borrow.Author.Rules.{rules}
+use Rattle.std.proofs.Common.{◌≡◌, rules}
 use Rattle.words.specs.Operators.{held_arithmetic_word}
 use Rattle.words.specs.declared.types.DataType.{DataType}
 use Rattle.words.specs.declared.types.DataType.TheVariants.{Bool, Int, Unsigned}

@@ -3,18 +3,14 @@ use Rattle.std.specs.Prelude.{◌≡◌, refl, Bool, true, false, cond, ◌&&◌
 use Rattle.std.proofs.Common.{sym, ap, ◌∙◌, pow_pos, ltb-true, lt-ltb, eqb-true, eq-eqb}
 use Rattle.std.specs.Int.Bits.{bit_and, bit_or, and_self, and_zero_l, and_zero_r}
 use Rattle.std.proofs.lemmas.Nat.{or_comm, or_lt}
-use Rattle.std.proofs.lemmas.Bool.{both_ways}
+use Rattle.std.proofs.lemmas.Bool.{and_parts}
+use Rattle.std.proofs.Math.Bool.{and-false}
 use Rattle.levels.specs.Rules.{Lawful}
 use Rattle.levels.specs.Kinds.{set_rules, both_sets}
 use Rattle.levels.specs.Subsets.{Subset, subset_transitive, subset_union, union_least}
 
-both : (a b : Bool) → (a && b) ≡ true → (a ≡ true) × (b ≡ true)
-both true b h = (refl, h)
-both false b h = elim (both_ways false refl h) [ ]
-
-neither : (a b : Bool) → b ≡ false → (a && b) ≡ false
-neither true b h = h
-neither false b h = refl
+denied : (a b : Bool) → b ≡ false → (a && b) ≡ false
+denied a b h = ap (λ c. a && c) h ∙ and-false a
 
 module _ (w : ℕ) where
   -- what flow says: both words are sets, and the first is a subset
@@ -31,8 +27,8 @@ module _ (w : ℕ) where
 
   flowed : (x y : ℕ) → (set_rules w).flows x y ≡ true → Flows x y
   flowed x y h =
-      let a = both (both_sets w x y) (eqb (bit_and x y) x) h in
-      let b = both (ltb x (2 ^ w)) (ltb y (2 ^ w)) a.0 in
+      let a = and_parts (both_sets w x y) (eqb (bit_and x y) x) h in
+      let b = and_parts (ltb x (2 ^ w)) (ltb y (2 ^ w)) a.0 in
       record { from = ltb-true x (2 ^ w) b.0; into = ltb-true y (2 ^ w) b.1; subset = eqb-true (bit_and x y) x a.1 }
 
   union : (x y : ℕ) → x < 2 ^ w → y < 2 ^ w → (set_rules w).joint x y ≡ bit_or x y
@@ -69,7 +65,7 @@ module _ (w : ℕ) where
             ap (λ m. (set_rules w).flows m z) (union x y f.from g.from)
             ∙ flowing (bit_or x y) z (record { from = or_lt w x y f.from g.from; into = f.into; subset = union_least x y z f.subset g.subset });
         denied_from = λ x y h. ap (λ b. (b && ltb y (2 ^ w)) && eqb (bit_and x y) x) h;
-        denied_into = λ x y h. ap (λ b. b && eqb (bit_and x y) x) (neither (ltb x (2 ^ w)) (ltb y (2 ^ w)) h);
+        denied_into = λ x y h. ap (λ b. b && eqb (bit_and x y) x) (denied (ltb x (2 ^ w)) (ltb y (2 ^ w)) h);
         joint_none_left = λ x y h. ap (λ b. cond (b && ltb y (2 ^ w)) (bit_or x y) 0) h;
-        joint_none_right = λ x y h. ap (λ b. cond b (bit_or x y) 0) (neither (ltb x (2 ^ w)) (ltb y (2 ^ w)) h);
+        joint_none_right = λ x y h. ap (λ b. cond b (bit_or x y) 0) (denied (ltb x (2 ^ w)) (ltb y (2 ^ w)) h);
       }

@@ -1,5 +1,5 @@
 -- Sums and differences, which are made share by share.
-use borrow.Author.Rules.{rules}
+use Rattle.std.proofs.Common.{rules}
 use Rattle.holding.proofs.ByShare.{sum_stands, difference_stands}
 use Rattle.holding.specs.Stands.{ThreeWords}
 use Rattle.holding.proofs.split.SplitHoldingHolding.arithmetic.Goals as goal
