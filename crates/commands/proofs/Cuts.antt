@@ -1,5 +1,5 @@
 -- Where a text is cut. Assumes nothing.
-use Rattle.std.proofs.Common.{◌≡◌, ℕ, suc, ◌+◌, ◌<◌, ◌≤◌, Bool, true, false, cond, not, eqb, List, [], ◌∷◌, ◌++◌, length, get_or, take, drop, sym, refl, ap, ◌∙◌, append_assoc, append-nil, arith, true-eqb, false-eqb}
+use Rattle.std.proofs.Common.{◌≡◌, ℕ, suc, ◌+◌, ◌<◌, true, false, cond, not, eqb, List, [], ◌∷◌, length, take, drop, sym, refl, ap, ◌∙◌, arith, true-eqb, false-eqb}
 use Rattle.std.proofs.lemmas.List.{nil_from_length}
 use Rattle.std.specs.List.{position_or_len}
 use Rattle.commands.specs.declared.cutting.Mark.{Mark}
@@ -39,16 +39,6 @@ pieces_first m (b ∷ x ∷ bs) l =
     as (λ t. cond t ([] ∷ pieces m (x ∷ bs)) (longer b (pieces m (x ∷ bs))) ≡ cond t [] (b ∷ before m (x ∷ bs)) ∷ pieces m (cond t (x ∷ bs) (after m (x ∷ bs))))
     [ true ↦ refl | false ↦ ap (longer b) (pieces_first m (x ∷ bs) (omega arith)) ]
 
-after_shorter : (m : Mark) (bs : List ℕ) → 0 < length bs → length (after m bs) < length bs
-after_shorter m [] l = absurd (omega arith)
-after_shorter m (b ∷ []) l =
-    elim (is_mark m b) as (λ t. length {A = ℕ} (cond t [] []) < length (b ∷ [])) [ true ↦ omega arith | false ↦ omega arith ]
-after_shorter m (b ∷ x ∷ bs) l =
-    let short = after_shorter m (x ∷ bs) (omega arith) in
-    elim (is_mark m b)
-    as (λ t. length (cond t (x ∷ bs) (after m (x ∷ bs))) < length (b ∷ x ∷ bs))
-    [ true ↦ omega arith | false ↦ omega arith ]
-
 -- a text that is not empty, cut at its first mark
 pub record Cut (m : Mark) (bs piece rest : List ℕ) : Type 0 where
   pub some : false ≡ eqb (length bs) 0
@@ -58,9 +48,6 @@ pub record Cut (m : Mark) (bs piece rest : List ℕ) : Type 0 where
 module _ {m : Mark} {bs piece rest : List ℕ} (cut : Cut m bs piece rest) where
   long : 0 < length bs
   long = omega (arith, false-eqb (length bs) 0 cut.some)
-
-  pub rest_shorter : length rest < length bs
-  rest_shorter = omega (arith, ap length cut.back, after_shorter m bs long)
 
   pub piece_first : pieces m bs ≡ piece ∷ pieces m rest
   piece_first = let first = pieces_first m bs long in let front = cut.front in let back = cut.back in cc

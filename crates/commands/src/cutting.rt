@@ -1,5 +1,5 @@
 // Cutting a text where a mark stands.
-ghost use Rattle.std.specs.Prelude.{◌≡◌, position};
+ghost use Rattle.std.specs.Prelude.{◌≡◌, ◌<◌, length, position};
 ghost use Rattle.commands.specs.Pieces.{is_mark, before, after};
 
 // Where a piece of text ends.
@@ -33,6 +33,7 @@ fn first(bytes: &[u8], mark: Mark) -> Option<usize>
 pub fn cut(bytes: &[u8], mark: Mark) -> (&[u8], &[u8])
     ensures front { result.0.now ≡ before mark bytes.now }
     ensures back { result.1.now ≡ after mark bytes.now }
+    ensures shorter { 0 < length bytes.now → length result.1.now < length bytes.now }
 {
     match first(bytes, mark) {
         Some(i) => (&bytes[..i], &bytes[i + 1..]),

@@ -1,6 +1,5 @@
 -- An odd digit, a pair that writes no byte, a pair more, and the end of the pairs.
-use Rattle.std.proofs.Common.{◌≡◌, ◌%◌, ◌<◌, ◌≤◌, length, vec_items, sym, ◌∙◌, arith, rules}
-use Rattle.commands.specs.Files.{bytes_of}
+use Rattle.std.proofs.Common.{◌%◌, ◌<◌, length, vec_items, sym, ◌∙◌, arith}
 use Rattle.commands.proofs.Digits.{bytes_in, whole, odd, onto_nil, onto_more, onto_broken, onto_all}
 use Rattle.commands.proofs.files.decode_digits.Goals as goal
 

@@ -1,5 +1,5 @@
 -- The name that an arm reads decides which command it is.
-use Rattle.std.proofs.Common.{◌≡◌, codes, refl, rules, arith}
+use Rattle.std.proofs.Common.{◌≡◌, codes, rules, arith}
 use Rattle.std.proofs.lemmas.Slice.Eq.{text_from_reads}
 use Rattle.commands.proofs.reading.command.Goals as goal
 
@@ -12,7 +12,7 @@ pub returns-in-holding : goal.returns-in-holding
 returns-in-holding c =
     let name : c.args.name.now ≡ codes "holding" = text_from_reads _ (codes "holding") (omega arith) (search rules) in
     rw name (search rules)
-    
+
 pub returns-in_ok-from-in-flows : goal.returns-in_ok-from-in-flows
 returns-in_ok-from-in-flows c =
     let name : c.args.name.now ≡ codes "flows" = text_from_reads _ (codes "flows") (omega arith) (search rules) in
