@@ -84,6 +84,7 @@ impl Desk {
             line: line.number,
             problem,
         })?;
+        // A `match`, since a proof knows nothing of what a closure under `map` leaves of the desk.
         match command {
             None => Ok(None),
             Some(command) => Ok(Some(self.answer(command))),
