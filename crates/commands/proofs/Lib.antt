@@ -1,5 +1,4 @@
--- Lemmas of lines, fields, numbers, names and digits.
+-- Lemmas of lines, fields, numbers and digits.
 pub mod Cuts
 pub mod Decimals
-pub mod Names
 pub mod Digits

@@ -1,16 +1,11 @@
 -- The numbers that fields write. Assumes nothing.
 use Rattle.std.specs.Prelude.{ℕ, ◌+◌, ◌-◌, ◌*◌, ◌^◌, cond, ◌&&◌, List, [], ◌∷◌, length, drop, pos, neg_ℤ, Some, None, Option, ◌==◌, nat_le, nat_lt, slice_index}
-use Rattle.std.specs.Char.{is_ascii_digit}
 use Rattle.std.specs.Str.{all_ascii_digits}
 use Rattle.words.specs.Ints.{word_of}
 
 -- a digit more after those of n
 abbrev pub appended : ℕ → ℕ → ℕ
 appended n b = n * 10 + (b - 48)
-
--- the same, where the byte is a digit and the number still a word
-abbrev pub with_digit : ℕ → ℕ → Option ℕ
-with_digit n b = cond (is_ascii_digit b && nat_lt (appended n b) (2 ^ 32)) (Some (appended n b)) None
 
 -- the number that decimal digits write after those of n
 abbrev pub number_after : ℕ → List ℕ → ℕ

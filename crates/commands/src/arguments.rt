@@ -1,6 +1,6 @@
 // The arguments of a command: the fields after its name.
-ghost use Rattle.std.specs.Prelude.{◌≡◌, [], ◌∷◌};
-ghost use Rattle.commands.specs.Arguments.{Gave, word_argument, int_argument, two_words, two_ints};
+ghost use Rattle.std.specs.Prelude.{◌≡◌, ℕ, List, [], ◌∷◌, Result};
+ghost use Rattle.commands.specs.Arguments.{Gave, Taken, Reads, word_argument, int_argument, two_numbers};
 ghost use Rattle.commands.specs.Pieces.{fields};
 
 use crate::fields::Fields;
@@ -13,13 +13,20 @@ pub fn word_argument(number: u8, argument: &[u8]) -> Result<u32, Problem>
     read_word(argument).ok_or(Problem::NoWord(number))
 }
 
-fn int_argument(number: u8, argument: &[u8]) -> Result<u32, Problem>
+pub fn int_argument(number: u8, argument: &[u8]) -> Result<u32, Problem>
     ensures { result ≡ int_argument number argument.now }
 {
     read_int(argument).ok_or(Problem::NoInt(number))
 }
 
-// What is left of the arguments, where it is just so many fields; the command takes `wanted` in all.
+// The next of the arguments of a command that takes `wanted` in all.
+pub fn next_argument<'a>(arguments: &mut Fields<'a>, wanted: u8) -> Result<&'a [u8], Problem>
+    ensures { Taken wanted (fields arguments.old.rest.now) result (fields arguments.new.rest.now) }
+{
+    arguments.next().ok_or(Problem::ArgumentCount(wanted))
+}
+
+// What is left of the arguments, where it is none, or just one.
 pub fn no_argument(mut arguments: Fields, wanted: u8) -> Result<(), Problem>
     ensures { Gave wanted 0 (λ _. []) (fields arguments.entry.rest.now) result }
 {
@@ -32,31 +39,20 @@ pub fn no_argument(mut arguments: Fields, wanted: u8) -> Result<(), Problem>
 pub fn one_argument<'a>(mut arguments: Fields<'a>, wanted: u8) -> Result<&'a [u8], Problem>
     ensures { Gave wanted 1 (λ x. x.now ∷ []) (fields arguments.entry.rest.now) result }
 {
-    match (arguments.next(), arguments.next()) {
-        (Some(first), None) => Ok(first),
-        _ => Err(Problem::ArgumentCount(wanted)),
-    }
+    let only = next_argument(&mut arguments, wanted)?;
+    no_argument(arguments, wanted)?;
+    Ok(only)
 }
 
-fn two_arguments<'a>(mut arguments: Fields<'a>) -> Result<(&'a [u8], &'a [u8]), Problem>
-    ensures { Gave 2 2 (λ p. p.0.now ∷ p.1.now ∷ []) (fields arguments.entry.rest.now) result }
+// Two arguments, both read as numbers of one sort.
+pub fn two_numbers<F: Fn(u8, &[u8]) -> Result<u32, Problem>>(
+    mut arguments: Fields,
+    read: F,
+) -> Result<(u32, u32), Problem>
+    requires { F.IsAlwaysCallable read }
+    ensures { (number : ℕ → List ℕ → Result ℕ Problem) → Reads (F.post read) number → result ≡ two_numbers number (fields arguments.entry.rest.now) }
 {
-    match (arguments.next(), arguments.next(), arguments.next()) {
-        (Some(first), Some(second), None) => Ok((first, second)),
-        _ => Err(Problem::ArgumentCount(2)),
-    }
-}
-
-pub fn two_words(arguments: Fields) -> Result<(u32, u32), Problem>
-    ensures { result ≡ two_words (fields arguments.entry.rest.now) }
-{
-    let (first, second) = two_arguments(arguments)?;
-    Ok((word_argument(1, first)?, word_argument(2, second)?))
-}
-
-pub fn two_ints(arguments: Fields) -> Result<(u32, u32), Problem>
-    ensures { result ≡ two_ints (fields arguments.entry.rest.now) }
-{
-    let (first, second) = two_arguments(arguments)?;
-    Ok((int_argument(1, first)?, int_argument(2, second)?))
+    let first = next_argument(&mut arguments, 2)?;
+    let second = one_argument(arguments, 2)?;
+    Ok((read(1, first)?, read(2, second)?))
 }

@@ -3,26 +3,31 @@ ghost use Rattle.std.specs.Prelude.{◌≡◌};
 ghost use Rattle.commands.specs.Commands.{level_kind_named, level_kind, open_kind, split_kind, holding_kind, command_named, command_of};
 ghost use Rattle.commands.specs.Pieces.{fields};
 
-use crate::arguments::{no_argument, one_argument, two_ints, two_words, word_argument};
+use crate::arguments::{
+    int_argument, next_argument, no_argument, one_argument, two_numbers, word_argument,
+};
 use crate::cutting::{Mark, cut};
 use crate::fields::Fields;
 use crate::types::{Command, HoldingKind, LevelKind, Problem};
-use std::str::from_utf8;
 
-fn level_kind_named(name: &[u8]) -> Result<LevelKind, Problem>
-    ensures { result ≡ level_kind_named name.now }
-{
-    match from_utf8(name) {
-        Ok("two") => Ok(LevelKind::Two),
-        Ok("members") => Ok(LevelKind::Members),
-        _ => Err(Problem::UnknownLevels),
+impl TryFrom<&[u8]> for LevelKind {
+    type Error = Problem;
+
+    ghost try_from_gives = { λ name r. r ≡ level_kind_named name.now };
+
+    fn try_from(name: &[u8]) -> Result<LevelKind, Problem> {
+        match name {
+            b"two" => Ok(LevelKind::Two),
+            b"members" => Ok(LevelKind::Members),
+            _ => Err(Problem::UnknownLevels),
+        }
     }
 }
 
 fn level_kind(arguments: Fields) -> Result<LevelKind, Problem>
     ensures { result ≡ level_kind (fields arguments.entry.rest.now) }
 {
-    level_kind_named(one_argument(arguments, 1)?)
+    LevelKind::try_from(one_argument(arguments, 1)?)
 }
 
 fn open_kind(arguments: Fields) -> Result<HoldingKind, Problem>
@@ -35,18 +40,16 @@ fn open_kind(arguments: Fields) -> Result<HoldingKind, Problem>
 fn split_kind(arguments: Fields) -> Result<HoldingKind, Problem>
     ensures { result ≡ split_kind (fields arguments.entry.rest.now) }
 {
-    Ok(HoldingKind::Split(word_argument(2, one_argument(arguments, 2)?)?))
+    let mask = one_argument(arguments, 2)?;
+    word_argument(2, mask).map(HoldingKind::Split)
 }
 
 fn holding_kind(mut arguments: Fields) -> Result<HoldingKind, Problem>
     ensures { result ≡ holding_kind (fields arguments.entry.rest.now) }
 {
-    let Some(name) = arguments.next() else {
-        return Err(Problem::ArgumentCount(1));
-    };
-    match from_utf8(name) {
-        Ok("open") => open_kind(arguments),
-        Ok("split") => split_kind(arguments),
+    match next_argument(&mut arguments, 1)? {
+        b"open" => open_kind(arguments),
+        b"split" => split_kind(arguments),
         _ => Err(Problem::UnknownHolding),
     }
 }
@@ -54,19 +57,19 @@ fn holding_kind(mut arguments: Fields) -> Result<HoldingKind, Problem>
 fn command(name: &[u8], arguments: Fields) -> Result<Command, Problem>
     ensures { result ≡ command_named name.now (fields arguments.entry.rest.now) }
 {
-    match from_utf8(name) {
-        Ok("levels") => Ok(Command::Levels(level_kind(arguments)?)),
-        Ok("holding") => Ok(Command::Holding(holding_kind(arguments)?)),
-        Ok("flows") => {
-            let (from, into) = two_words(arguments)?;
+    match name {
+        b"levels" => level_kind(arguments).map(Command::Levels),
+        b"holding" => holding_kind(arguments).map(Command::Holding),
+        b"flows" => {
+            let (from, into) = two_numbers(arguments, word_argument)?;
             Ok(Command::Flows { from, into })
         }
-        Ok("joint") => {
-            let (one, other) = two_words(arguments)?;
+        b"joint" => {
+            let (one, other) = two_numbers(arguments, word_argument)?;
             Ok(Command::Joint { one, other })
         }
-        Ok("amend") => {
-            let (weight, correction) = two_ints(arguments)?;
+        b"amend" => {
+            let (weight, correction) = two_numbers(arguments, int_argument)?;
             Ok(Command::Amend { weight, correction })
         }
         _ => Err(Problem::UnknownCommand),
@@ -81,6 +84,6 @@ pub fn read(line: &[u8]) -> Result<Option<Command>, Problem>
     let mut fields = Fields::of(text);
     match fields.next() {
         None => Ok(None),
-        Some(name) => Ok(Some(command(name, fields)?)),
+        Some(name) => command(name, fields).map(Some),
     }
 }

@@ -3,6 +3,7 @@ ghost use Rattle.std.specs.Prelude.{Some};
 ghost use Rattle.commands.specs.Texts.{level_kind_text, holding_kind_text, problem_text};
 
 use crate::types::{HoldingKind, LevelKind, Problem};
+use std::error::Error;
 use std::fmt;
 
 impl fmt::Display for LevelKind {
@@ -55,3 +56,5 @@ impl fmt::Display for Problem {
         }
     }
 }
+
+impl Error for Problem {}

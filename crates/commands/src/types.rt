@@ -39,7 +39,7 @@ pub struct FileCommand<'a> {
 }
 
 // An argument is numbered from 1: the field after the command's name.
-#[derive(Clone, Copy)]
+#[derive(Clone, Copy, Debug, PartialEq, Eq)]
 pub enum Problem {
     UnknownCommand,
     // How many arguments the command takes.

@@ -6,11 +6,30 @@ use checker::verdict::Workspace;
 use commands::files::{decode_digits, read_file_command};
 use commands::lines::{Line, Lines};
 use commands::types::{FileCommand, Problem, Source};
-use script::answers::Reply;
+use script::answers::{Answer, LineError};
 use script::desk::Desk;
+use std::alloc::AllocError;
 use std::io::Read;
 use std::str::from_utf8;
 use std::{env, fs};
+
+// Why a check has no answer: something is wrong with its line, or memory ran out.
+enum Failure {
+    Problem(Problem),
+    Memory(AllocError),
+}
+
+impl From<Problem> for Failure {
+    fn from(problem: Problem) -> Failure {
+        Failure::Problem(problem)
+    }
+}
+
+impl From<AllocError> for Failure {
+    fn from(error: AllocError) -> Failure {
+        Failure::Memory(error)
+    }
+}
 
 // The script in the file that the first argument names, or else on standard input.
 fn script(rt: &HostRuntime) -> anyhow::Result<Vec<u8>> {
@@ -26,55 +45,62 @@ fn script(rt: &HostRuntime) -> anyhow::Result<Vec<u8>> {
     }
 }
 
-// The bytes of the file that a command names, or what is wrong.
-fn program_file(
-    rt: &HostRuntime,
-    command: FileCommand<'_>,
-) -> anyhow::Result<Result<Vec<u8>, Problem>> {
-    match command.source {
-        Source::Digits => Ok(decode_digits(rt.alloc(), command.text)?.ok_or(Problem::NoDigits)),
-        Source::Path => match from_utf8(command.text) {
-            Ok(path) => Ok(fs::read(rt, path).ok().ok_or(Problem::Unreadable)),
-            Err(_) => Ok(Err(Problem::Unreadable)),
-        },
-    }
+// The bytes of the file that a command names.
+fn program_file(rt: &HostRuntime, command: FileCommand<'_>) -> Result<Vec<u8>, Failure> {
+    let file = match command.source {
+        Source::Digits => decode_digits(rt.alloc(), command.text)?.ok_or(Problem::NoDigits)?,
+        Source::Path => from_utf8(command.text)
+            .ok()
+            .and_then(|path| fs::read(rt, path).ok())
+            .ok_or(Problem::Unreadable)?,
+    };
+    Ok(file)
 }
 
-// The reply to a line, or nothing where it holds no command.
+// The answer to the check that a line asks for, or nothing where it asks for none.
+fn check(
+    rt: &HostRuntime,
+    desk: &Desk,
+    workspace: &mut Workspace,
+    line: &[u8],
+) -> Result<Option<Answer>, Failure> {
+    let Some(command) = read_file_command(line)? else {
+        return Ok(None);
+    };
+    let file = program_file(rt, command)?;
+    Ok(Some(desk.check(workspace, file.as_slice())))
+}
+
+// Prints what a line is answered, where it holds a command, or what is wrong with it.
 fn reply(
     rt: &HostRuntime,
     desk: &mut Desk,
     workspace: &mut Workspace,
     line: Line<'_>,
-) -> anyhow::Result<Option<Reply>> {
-    match read_file_command(line.bytes) {
-        Ok(None) => Ok(desk.respond(line)),
-        Ok(Some(command)) => match program_file(rt, command)? {
-            Ok(file) => Ok(Some(Reply::Answer(desk.check(workspace, file.as_slice())))),
-            Err(problem) => Ok(Some(Reply::Error {
-                line: line.number,
-                problem,
-            })),
-        },
-        Err(problem) => Ok(Some(Reply::Error {
+) -> anyhow::Result<()> {
+    let answer = match check(rt, desk, workspace, line.bytes) {
+        Ok(None) => desk.respond(line),
+        Ok(answer) => Ok(answer),
+        Err(Failure::Problem(problem)) => Err(LineError {
             line: line.number,
             problem,
-        })),
-    }
-}
-
-fn answer(rt: &HostRuntime) -> anyhow::Result<()> {
-    let script = script(rt)?;
-    let mut desk = Desk::new();
-    let mut workspace = Workspace::reserve(rt.alloc())?;
-    for line in Lines::of(script.as_slice()) {
-        if let Some(reply) = reply(rt, &mut desk, &mut workspace, line)? {
-            println!(rt; "{reply}")?;
-        }
+        }),
+        Err(Failure::Memory(error)) => return Err(error.into()),
+    };
+    match answer {
+        Ok(None) => {}
+        Ok(Some(answer)) => println!(rt; "{answer}")?,
+        Err(error) => println!(rt; "{error}")?,
     }
     Ok(())
 }
 
 fn main(rt: HostRuntime) -> anyhow::Result<()> {
-    answer(&rt)
+    let script = script(&rt)?;
+    let mut desk = Desk::new();
+    let mut workspace = Workspace::reserve(rt.alloc())?;
+    for line in Lines::of(script.as_slice()) {
+        reply(&rt, &mut desk, &mut workspace, line)?;
+    }
+    Ok(())
 }

@@ -4,7 +4,6 @@ use Rattle.holding.specs.Counts.{none_yet, one_put, one_op}
 use Rattle.holding.specs.declared.shares.Counts.{Counts}
 use Rattle.levels.specs.Kinds.{two_level_rules, member_set_rules}
 use Rattle.levels.specs.Rules.{Rules}
-use Rattle.program.specs.Refusals.{row_number, place_number}
 use Rattle.program.specs.declared.layout.Layout.{Layout}
 use Rattle.program.specs.declared.refusal.Refusal.{Refusal}
 use Rattle.typing.specs.Faults.{verdict_of}
@@ -43,7 +42,7 @@ abbrev pub amended_counts : Counts → Counts
 amended_counts counts = one_op (one_put (one_put counts))
 
 abbrev pub amend_answer : ℕ → ℕ → Counts → Answer
-amend_answer weight correction counts = Amended (int_of (amended weight correction)) (amended_counts counts).puts (amended_counts counts).ops
+amend_answer weight correction counts = Amended (int_of (amended weight correction)) (amended_counts counts)
 
 -- each amendment is made in a fresh holding, whatever its kind
 abbrev pub answer_to : Desk → Command → Answer
@@ -53,10 +52,10 @@ answer_to desk (Flows from into) = Flow ((level_rules desk.levels).flows from in
 answer_to desk (Joint one other) = JointLevel ((level_rules desk.levels).joint one other)
 answer_to desk (Amend weight correction) = amend_answer weight correction none_yet
 
--- a verdict on a program file: the counts of its records, or the row and the place of its first fault
+-- a verdict on a program file: the counts of its records, or its first fault
 abbrev pub verdict_answer : Result Layout Refusal → Answer
-verdict_answer (Ok l) = Accepted l.nodes l.variables l.procedures
-verdict_answer (Err e) = Refused (row_number e) (place_number e)
+verdict_answer (Ok l) = Accepted l
+verdict_answer (Err e) = Refused e
 
 abbrev pub check_answer : Desk → List ℕ → Answer
 check_answer desk file = verdict_answer (verdict_of (level_rules desk.levels) file)

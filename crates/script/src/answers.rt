@@ -1,8 +1,12 @@
 // What a line of a script is answered, and how that is written.
 ghost use Rattle.std.specs.Prelude.{Some};
-ghost use Rattle.script.specs.Texts.{answer_text, reply_text};
+ghost use Rattle.script.specs.Texts.{answer_text, line_error_text};
 
 use commands::types::{HoldingKind, LevelKind, Problem};
+use holding::shares::Counts;
+use program::layout::Layout;
+use program::refusal::Refusal;
+use std::error::Error;
 use std::fmt;
 
 #[derive(Clone, Copy)]
@@ -12,27 +16,17 @@ pub enum Answer {
     Flows(bool),
     Joint(u32),
     // The sum as an int, and the holding's counts.
-    Amend {
-        sum: i32,
-        puts: u32,
-        ops: u32,
-    },
-    // The counts of a file's records.
-    Accepted {
-        nodes: usize,
-        variables: usize,
-        procedures: usize,
-    },
-    Refused {
-        row: u8,
-        place: u16,
-    },
+    Amend { sum: i32, counts: Counts },
+    // The counts of a file's records, or its first fault.
+    Accepted(Layout),
+    Refused(Refusal),
 }
 
-#[derive(Clone, Copy)]
-pub enum Reply {
-    Answer(Answer),
-    Error { line: usize, problem: Problem },
+// What is wrong with the line of a number.
+#[derive(Clone, Copy, Debug, PartialEq, Eq)]
+pub struct LineError {
+    pub line: usize,
+    pub problem: Problem,
 }
 
 impl fmt::Display for Answer {
@@ -45,24 +39,30 @@ impl fmt::Display for Answer {
             Answer::Flows(true) => write!(f, "flows yes"),
             Answer::Flows(false) => write!(f, "flows no"),
             Answer::Joint(level) => write!(f, "joint {level}"),
-            Answer::Amend { sum, puts, ops } => write!(f, "amend {sum} {puts} {ops}"),
-            Answer::Accepted {
-                nodes,
-                variables,
-                procedures,
-            } => write!(f, "accepted {nodes} {variables} {procedures}"),
-            Answer::Refused { row, place } => write!(f, "refused {row} {place}"),
+            Answer::Amend {
+                sum,
+                counts: Counts { puts, ops },
+            } => write!(f, "amend {sum} {puts} {ops}"),
+            Answer::Accepted(
+                Layout {
+                    nodes,
+                    variables,
+                    procedures,
+                },
+            ) => write!(f, "accepted {nodes} {variables} {procedures}"),
+            Answer::Refused(refusal) => {
+                write!(f, "refused {} {}", refusal.row(), refusal.place())
+            }
         }
     }
 }
 
-impl fmt::Display for Reply {
-    ghost output = { λ reply. Some (reply_text reply) };
+impl fmt::Display for LineError {
+    ghost output = { λ error. Some (line_error_text error) };
 
     fn fmt<W: fmt::Write>(&self, f: &mut fmt::Formatter<W>) -> fmt::Result {
-        match self {
-            Reply::Answer(answer) => write!(f, "{answer}"),
-            Reply::Error { line, problem } => write!(f, "error {line}: {problem}"),
-        }
+        write!(f, "error {}: {}", self.line, self.problem)
     }
 }
+
+impl Error for LineError {}

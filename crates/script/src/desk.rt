@@ -4,7 +4,7 @@ ghost use Rattle.script.specs.Answers.{new_desk, desk_after, amend_answer, answe
 ghost use Rattle.script.specs.Replies.{reply_to, desk_after_line};
 
 use crate::amending::amend;
-use crate::answers::{Answer, Reply};
+use crate::answers::{Answer, LineError};
 use crate::kinds::{flows, joint, verdict};
 use checker::verdict::Workspace;
 use commands::lines::Line;
@@ -12,9 +12,7 @@ use commands::reading::read;
 use commands::types::{Command, HoldingKind, LevelKind};
 use holding::interface::Holding;
 use holding::open::OpenHolding;
-use holding::shares::Counts;
 use holding::split::SplitHolding;
-use program::layout::Layout;
 use words::ints::int_of_word;
 
 #[derive(Clone, Copy)]
@@ -28,8 +26,10 @@ fn amend_in<H: Holding + Drop>(mut holding: H, weight: u32, correction: u32) -> 
     ensures { result ≡ amend_answer weight correction (H.counts holding) }
 {
     let sum = int_of_word(amend(&mut holding, weight, correction));
-    let Counts { puts, ops } = holding.tally();
-    Answer::Amend { sum, puts, ops }
+    Answer::Amend {
+        sum,
+        counts: holding.tally(),
+    }
 }
 
 impl Desk {
@@ -70,36 +70,24 @@ impl Desk {
         ensures { result ≡ check_answer self.now file.now }
     {
         match verdict(self.levels, workspace, file) {
-            Ok(
-                Layout {
-                    nodes,
-                    variables,
-                    procedures,
-                },
-            ) => Answer::Accepted {
-                nodes,
-                variables,
-                procedures,
-            },
-            Err(refusal) => Answer::Refused {
-                row: refusal.row(),
-                place: refusal.place(),
-            },
+            Ok(layout) => Answer::Accepted(layout),
+            Err(refusal) => Answer::Refused(refusal),
         }
     }
 
-    // The reply to a line, or nothing where the line holds no command.
-    pub fn respond(&mut self, line: Line<'_>) -> Option<Reply>
+    // The answer to the command of a line, or nothing where the line holds none.
+    pub fn respond(&mut self, line: Line<'_>) -> Result<Option<Answer>, LineError>
         ensures value { result ≡ reply_to self.old line.entry.number line.entry.bytes.now }
         ensures after { self.new ≡ desk_after_line self.old line.entry.bytes.now }
     {
-        match read(line.bytes) {
-            Ok(None) => None,
-            Ok(Some(command)) => Some(Reply::Answer(self.answer(command))),
-            Err(problem) => Some(Reply::Error {
-                line: line.number,
-                problem,
-            }),
+        let command = read(line.bytes).map_err(|problem| LineError {
+            line: line.number,
+            problem,
+        })?;
+        // A `match`, since a proof knows nothing of what a closure under `map` leaves of the desk.
+        match command {
+            None => Ok(None),
+            Some(command) => Ok(Some(self.answer(command))),
         }
     }
 }

@@ -1,4 +1,5 @@
-// What a chosen kind of levels says of two words, and of a program file.
+// What a chosen kind of levels says of two words, and of a program file. Each question has its match on the kind: no closure
+// takes either type, a `dyn` has no rules of its own, and a visitor is a struct and an `impl` for each of the three.
 ghost use Rattle.std.specs.Prelude.{◌≡◌};
 ghost use Rattle.typing.specs.Faults.{verdict_of};
 ghost use Rattle.script.specs.Answers.{level_rules};

@@ -1,28 +1,27 @@
-use Rattle.std.proofs.Common.{◌-◌, ◌<◌, ◌≤◌, length, drop, Some, vec_items, sym, ap, ◌∙◌, append-nil, arith, length-drop, take_all, rules}
-use Rattle.commands.proofs.Digits.{onto_more, onto_broken, onto_all, onto_odd}
+-- An odd digit, a pair that writes no byte, a pair more, and the end of the pairs.
+use Rattle.std.proofs.Common.{◌%◌, ◌<◌, length, vec_items, sym, ◌∙◌, arith}
+use Rattle.commands.proofs.Digits.{bytes_in, whole, odd, onto_nil, onto_more, onto_broken, onto_all}
 use Rattle.commands.proofs.files.decode_digits.Goals as goal
+
+pub returns-in_default : goal.returns-in_default
+returns-in_default c = odd c.args.text.now (omega (arith, c.as_chunks.ensures.back_len))
+
+pub loop-high-init : goal.loop-high-init
+loop-high-init c = rw c.new-bytes.ensures.items (onto_nil (bytes_in c.as_chunks.result.0.now))
 
 pub returns-in_default-byte : goal.returns-in_default-byte
 returns-in_default-byte c =
-    let len : 2 ≤ length c.loop-left.left.now = search rules in
-    sym (onto_broken (vec_items c.loop-left.bytes) c.loop-left.left.now len c.in_default-byte.ensures) ∙ c.loop-left.invariant
+    let even : length c.args.text.now % 2 < 1 = omega (arith, c.as_chunks.ensures.back_len) in
+    sym (onto_broken (vec_items c.loop-high.bytes) c.as_chunks.result.0.now c.loop-high.high-index c.loop-high-test.true c.in_default-byte.ensures)
+    ∙ c.loop-high.invariant ∙ whole c.args.text.now _ c.as_chunks.ensures.front even
 
-pub loop-left-preserved : goal.loop-left-preserved
-loop-left-preserved c =
-    let left = c.loop-left.left.now in
-    let len : 2 ≤ length left = search rules in
-    let rest = take_all (length left - 2) (drop 2 left) (simp length-drop (omega arith)) in
-    let more = onto_more (vec_items c.loop-left.bytes) left c.in-Some.byte len c.in-Some.ensures in
-    let pushed = c.in_ok-push.ensures.items in
-    let kept = c.loop-left.invariant in
-    cc
+pub loop-high-preserved : goal.loop-high-preserved
+loop-high-preserved c =
+    let more = onto_more (vec_items c.loop-high.bytes) c.as_chunks.result.0.now c.loop-high.high-index c.in-Some.byte c.loop-high-test.true c.in-Some.ensures in
+    rw c.in_ok-push.ensures.items (sym more ∙ c.loop-high.invariant)
 
-pub returns-then-is_empty : goal.returns-then-is_empty
-returns-then-is_empty c =
-    ap Some (sym (append-nil (vec_items c.loop-left.bytes))) ∙ sym (onto_all (vec_items c.loop-left.bytes) c.loop-left.left.now (search rules)) ∙ c.loop-left.invariant
-
-pub returns-else-is_empty : goal.returns-else-is_empty
-returns-else-is_empty c =
-    let few : length c.loop-left.left.now < 2 = search rules in
-    let some : 0 < length c.loop-left.left.now = search rules in
-    sym (onto_odd (vec_items c.loop-left.bytes) c.loop-left.left.now few some) ∙ c.loop-left.invariant
+pub returns : goal.returns
+returns c =
+    let even : length c.args.text.now % 2 < 1 = omega (arith, c.as_chunks.ensures.back_len) in
+    sym (onto_all (vec_items c.loop-high.bytes) c.as_chunks.result.0.now c.loop-high.high-index c.loop-high-test.false)
+    ∙ c.loop-high.invariant ∙ whole c.args.text.now _ c.as_chunks.ensures.front even

@@ -1,10 +1,7 @@
-use Rattle.std.proofs.Common.{◌≡◌, length, vec_items}
-use Rattle.commands.specs.Files.{bytes_of}
-use Rattle.commands.proofs.Digits.{onto}
+use Rattle.std.proofs.Common.{◌≡◌, drop, vec_items}
+use Rattle.commands.proofs.Digits.{bytes_in, onto}
 use Rattle.commands.proofs.files.decode_digits.Given as goal
 
-abbrev pub invariant-loop-left : goal.invariant-loop-left
-invariant-loop-left l = onto (vec_items l.bytes) (bytes_of l.left) ≡ bytes_of l.text
-
-abbrev pub decreases-loop-left : goal.decreases-loop-left
-decreases-loop-left l = length l.left
+-- what was decoded and the pairs that are left give what all the pairs give
+abbrev pub invariant-loop-high : goal.invariant-loop-high
+invariant-loop-high l = onto (vec_items l.bytes) (bytes_in (drop l.high-index l.pairs)) ≡ bytes_in l.pairs

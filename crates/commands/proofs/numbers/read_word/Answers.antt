@@ -1,26 +1,19 @@
--- A digit more, a byte that ends the reading, and the end of the field.
-use Rattle.std.proofs.Common.{cond, None, sym, ap, ◌∙◌, arith, rules}
-use Rattle.commands.specs.Numbers.{word_after, word_in}
-use Rattle.commands.proofs.Decimals.{digit_read, all_read}
+-- A sign, bytes that are no text, and what `parse` gives.
+use Rattle.std.proofs.Common.{◌≡◌, ◌≢◌, IsUtf8, get_or, ◌∙◌, rules}
+use Rattle.commands.proofs.Decimals.{word_parsed, no_text, no_sign}
 use Rattle.commands.proofs.numbers.read_word.Goals as goal
 
-pub loop-byte-init : goal.loop-byte-init
-unfolding word_in
-loop-byte-init c = (ap (λ t. cond t None (word_after 0 c.args.field.now)) c.if-is_empty.ensures, omega arith)
+pub returns-then-starts_with : goal.returns-then-starts_with
+returns-then-starts_with c = no_sign c.args.field.now (search rules)
 
-pub loop-byte-preserved : goal.loop-byte-preserved
-loop-byte-preserved c =
-    let read = digit_read _ c.args.field.now c.loop-byte.byte-index _ c.loop-byte-test.true c.in_ok-number.ensures in
-    (sym read ∙ c.loop-byte.invariant.0, search rules)
-
-pub returns-in_err-number : goal.returns-in_err-number
-returns-in_err-number c =
-    let read = digit_read _ c.args.field.now c.loop-byte.byte-index _ c.loop-byte-test.true c.in_err-number.ensures in
-    c.from_residual.ensures ∙ sym read ∙ c.loop-byte.invariant.0
+pub returns-in_err-ok : goal.returns-in_err-ok
+returns-in_err-ok c =
+    let never : IsUtf8 c.args.field.now → ⊥ = search rules in
+    c.from_residual.ensures ∙ no_text c.args.field.now never
 
 pub returns : goal.returns
-returns c = sym (all_read _ c.args.field.now c.loop-byte.byte-index c.loop-byte-test.false c.loop-byte.invariant.1) ∙ c.loop-byte.invariant.0
-
-pub returns-then-is_empty : goal.returns-then-is_empty
-unfolding word_in
-returns-then-is_empty c = search rules
+returns c =
+    let same : c.in_ok-ok.field-0.now ≡ c.args.field.now = search rules in
+    let plain : get_or c.args.field.now 0 0 ≢ 43 = search rules in
+    let parsed = c.parse.ensures.value.0 in
+    c.ok-2.ensures.value ∙ word_parsed c.args.field.now _ (rw same at parsed) plain

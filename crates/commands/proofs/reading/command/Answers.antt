@@ -1,20 +1,34 @@
--- A name that is none of the commands', be it text or not.
-use Rattle.std.proofs.Common.{codes, refl, rules}
-use lib.Utf8.{encode}
-use Rattle.std.proofs.lemmas.Slice.Eq.{bytes_eq-Decides}
-use Rattle.commands.proofs.Names.{no_name}
+-- The name that an arm reads decides which command it is.
+use Rattle.std.proofs.Common.{◌≡◌, codes, rules, arith}
+use Rattle.std.proofs.lemmas.Slice.Eq.{text_from_reads}
 use Rattle.commands.proofs.reading.command.Goals as goal
 
-pub returns-in_default : goal.returns-in_default
-returns-in_default c = search (rules, bytes_eq-Decides)
+pub returns-in-levels : goal.returns-in-levels
+returns-in-levels c =
+    let name : c.args.name.now ≡ codes "levels" = text_from_reads _ (codes "levels") (omega arith) (search rules) in
+    rw name (search rules)
 
-pub returns-in_default-2 : goal.returns-in_default-2
-unfolding encode
-returns-in_default-2 c =
-    let never = c.in_default.in-Err-own.ensures.0.0 in
-    let levels = no_name c.args.name.now (codes "levels") never refl refl in
-    let holding = no_name c.args.name.now (codes "holding") never refl refl in
-    let flows = no_name c.args.name.now (codes "flows") never refl refl in
-    let joint = no_name c.args.name.now (codes "joint") never refl refl in
-    let amend = no_name c.args.name.now (codes "amend") never refl refl in
-    search rules
+pub returns-in-holding : goal.returns-in-holding
+returns-in-holding c =
+    let name : c.args.name.now ≡ codes "holding" = text_from_reads _ (codes "holding") (omega arith) (search rules) in
+    rw name (search rules)
+
+pub returns-in_ok-from-in-flows : goal.returns-in_ok-from-in-flows
+returns-in_ok-from-in-flows c =
+    let name : c.args.name.now ≡ codes "flows" = text_from_reads _ (codes "flows") (omega arith) (search rules) in
+    rw name (search rules)
+
+pub returns-in_ok-one-in-joint : goal.returns-in_ok-one-in-joint
+returns-in_ok-one-in-joint c =
+    let name : c.args.name.now ≡ codes "joint" = text_from_reads _ (codes "joint") (omega arith) (search rules) in
+    rw name (search rules)
+
+pub returns-in_ok-weight-in-amend : goal.returns-in_ok-weight-in-amend
+returns-in_ok-weight-in-amend c =
+    let name : c.args.name.now ≡ codes "amend" = text_from_reads _ (codes "amend") (omega arith) (search rules) in
+    rw name (search rules)
+
+pub returns-in_err-weight-in-amend : goal.returns-in_err-weight-in-amend
+returns-in_err-weight-in-amend c =
+    let name : c.args.name.now ≡ codes "amend" = text_from_reads _ (codes "amend") (omega arith) (search rules) in
+    rw name (search rules)

@@ -1,0 +1,8 @@
+use Rattle.std.proofs.Common.{◌≡◌, codes, refl, rules, arith}
+use Rattle.std.proofs.lemmas.Slice.Eq.{text_from_reads}
+use Rattle.commands.proofs.files.SourceTryFromRefSliceU8.try_from.Goals as goal
+
+pub returns-in-99 : goal.returns-in-99
+returns-in-99 c =
+    let name : c.args.name.now ≡ codes "check-file" = text_from_reads _ (codes "check-file") (omega arith) (search rules) in
+    rw name refl
