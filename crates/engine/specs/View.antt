@@ -1,5 +1,6 @@
 -- What the parts of a run stand for. Here alone three words become the word that they stand for. Assumes nothing.
 use Rattle.std.specs.Prelude.{ℕ, List, [], ◌∷◌, map, Some, None, vec_items, Option}
+use Rattle.words.specs.Operators.{minus_word, not_word}
 use Rattle.holding.specs.declared.shares.Counts.{Counts}
 use Rattle.holding.specs.declared.shares.Shares.{Shares}
 use Rattle.semantics.specs.Machine as model
@@ -8,8 +9,10 @@ use Rattle.semantics.specs.declared.values.Signal.{Signal}
 use Rattle.semantics.specs.declared.values.Signal.TheVariants.{Gives, Argues, Falls, Returns, Breaks, Continues}
 use Rattle.semantics.specs.declared.values.Value.{Value}
 use Rattle.semantics.specs.declared.values.Value.TheVariants.{Plain, Held}
+use Rattle.engine.specs.declared.wants.Unary.{Unary}
+use Rattle.engine.specs.declared.wants.Unary.TheVariants.{Minus, Not}
 use Rattle.engine.specs.declared.wants.Want.{Want}
-use Rattle.engine.specs.declared.wants.Want.TheVariants.{Negate, Invert, First, Second, Choose, Chosen, Assign, Argue, Release, Output, Discard, Branch, BranchElse, Guard, Return}
+use Rattle.engine.specs.declared.wants.Want.TheVariants.{Only, First, Second, Choose, Chosen, Assign, Argue, Release, Output, Discard, Branch, BranchElse, Guard, Return}
 use Rattle.engine.specs.declared.frames.Entry.{Entry}
 use Rattle.engine.specs.declared.frames.Entry.TheVariants.{Frame as Framed, Passed}
 use Rattle.engine.specs.declared.frames.Frame.{Frame}
@@ -18,6 +21,11 @@ use Rattle.engine.specs.declared.frames.Move.{Move}
 use Rattle.engine.specs.declared.frames.Move.TheVariants.{Begin, Under, Over, Write, Stop}
 use Rattle.engine.specs.declared.sheet.Sheet.{Sheet}
 use Rattle.engine.specs.declared.store.Store.{Store}
+
+-- the word of an operator on one word
+abbrev pub unary_word : Unary → ℕ → ℕ
+unary_word Minus = minus_word
+unary_word Not = not_word
 
 abbrev pub shown_of : Sheet → Shown
 shown_of s = record { lines = vec_items s.lines; spent = s.spent }
@@ -43,8 +51,8 @@ module _ (stands : Shares → ℕ) where
   signal_of Continues = Continues
 
   abbrev pub want_of : Want Shares → model.Want
-  want_of Negate = model.negating
-  want_of Invert = model.inverting
+  want_of (Only Minus) = model.negating
+  want_of (Only Not) = model.inverting
   want_of (First o b) = model.first o b
   want_of (Second o x) = model.second o (value_of x)
   want_of (Choose b c) = model.choosing b c
@@ -78,5 +86,5 @@ module _ (stands : Shares → ℕ) where
   move_of (Begin n) k = model.begin n k
   move_of (Under f n) k = model.under (frame_of [] f) n k
   move_of (Over z) k = model.over (signal_of z) k
-  move_of (Write kind n t w z) k = model.line kind n t w (signal_of z) k
+  move_of (Write d z) k = model.line d.kind d.node d.data_type d.word (signal_of z) k
   move_of (Stop o) k = model.stop o k

@@ -16,7 +16,7 @@ ghost use Rattle.engine.specs.declared.frames.Move.TheVariants.{Under, Over};
 use crate::frames::{Frame, Move};
 use crate::records::{figure_type, typed_node};
 use crate::store::Store;
-use crate::wants::Want;
+use crate::wants::{Unary, Want};
 use holding::interface::Holding;
 use holding::shares::Shares;
 use program::records::Node;
@@ -78,8 +78,8 @@ impl<H: Holding + Drop> Store<H> {
         match node {
             Node::Constant { word, .. } => Move::Over(Signal::Gives(Value::Plain(word))),
             Node::Variable { variable } => Move::Over(Signal::Gives(self.read(variable as usize))),
-            Node::Minus { operand } => wait(n, Want::Negate, operand),
-            Node::Not { operand } => wait(n, Want::Invert, operand),
+            Node::Minus { operand } => wait(n, Want::Only(Unary::Minus), operand),
+            Node::Not { operand } => wait(n, Want::Only(Unary::Not), operand),
             Node::Arithmetic {
                 operator,
                 left,

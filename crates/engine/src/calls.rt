@@ -18,10 +18,7 @@ use tables::tables::Tables;
 fn is_local_of(number: u16, role: Role) -> bool
     ensures { result ≡ is_local_of number role }
 {
-    match role {
-        Role::Local { procedure } => procedure == number,
-        Role::Global | Role::Input | Role::Parameter { .. } => false,
-    }
+    role == Role::Local { procedure: number }
 }
 
 impl<H: Holding + Drop> Store<H> {

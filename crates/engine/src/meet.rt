@@ -24,26 +24,16 @@ impl<H: Holding + Drop> Store<H> {
         ensures moves { (xs : List (Value ℕ)) → move_of H.stands result (kept_of H.stands H.counts self.new) ≡ meets (view tables.now) (frame_of H.stands xs frame) (signal_of H.stands signal) (kept_of H.stands H.counts self.old) }
         ensures fits { (depth : ℕ) → depth_fits (view tables.now) (number frame) depth ≡ true → signal_fits (view tables.now) (suc depth) signal ≡ true → move_fits (view tables.now) depth result ≡ true }
     {
-        match frame {
-            Frame::Wait(n, want) => match signal {
-                Signal::Gives(figure) => self.resume(tables, n, want, figure),
-                _ => Move::Over(signal),
-            },
-            Frame::Then(_, second) => match signal {
-                Signal::Falls => Move::Begin(second),
-                _ => Move::Over(signal),
-            },
-            Frame::Loop(n, guard, body) => match signal {
-                Signal::Falls | Signal::Continues => wait(n, Want::Guard(guard, body), guard),
-                Signal::Breaks => Move::Over(Signal::Falls),
-                _ => Move::Over(signal),
-            },
-            Frame::Calling(_, _) => Move::Over(signal),
-            Frame::Running(_) => match signal {
-                Signal::Returns(Some(figure)) => Move::Over(Signal::Gives(figure)),
-                Signal::Returns(None) => Move::Over(Signal::Falls),
-                _ => Move::Over(signal),
-            },
+        match (frame, signal) {
+            (Frame::Wait(n, want), Signal::Gives(figure)) => self.resume(tables, n, want, figure),
+            (Frame::Then(_, second), Signal::Falls) => Move::Begin(second),
+            (Frame::Loop(n, guard, body), Signal::Falls | Signal::Continues) => {
+                wait(n, Want::Guard(guard, body), guard)
+            }
+            (Frame::Loop(_, _, _), Signal::Breaks) => Move::Over(Signal::Falls),
+            (Frame::Running(_), Signal::Returns(Some(figure))) => Move::Over(Signal::Gives(figure)),
+            (Frame::Running(_), Signal::Returns(None)) => Move::Over(Signal::Falls),
+            _ => Move::Over(signal),
         }
     }
 }

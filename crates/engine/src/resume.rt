@@ -16,6 +16,7 @@ use crate::figures::{decides, holds, plain_word};
 use crate::frames::{Frame, Move};
 use crate::operators::combine_words;
 use crate::records::result_level;
+use crate::sheet::Draft;
 use crate::store::Store;
 use crate::wants::Want;
 use holding::interface::Holding;
@@ -58,28 +59,28 @@ fn branch(node: u16, holds: bool) -> Move
     }
 }
 
-fn output(n: u16, data_type: DataType, word: u32) -> Move
-    ensures { result ≡ Write OutputLine n data_type word Falls }
+fn output(node: u16, data_type: DataType, word: u32) -> Move
+    ensures { result ≡ Write (record { kind = OutputLine; node = node; data_type = data_type; word = word }) Falls }
 {
-    Move::Write {
+    let draft = Draft {
         kind: LineKind::Output,
-        node: n,
+        node,
         data_type,
         word,
-        signal: Signal::Falls,
-    }
+    };
+    Move::Write(draft, Signal::Falls)
 }
 
-fn release(n: u16, data_type: DataType, word: u32) -> Move
-    ensures { result ≡ Write ReleaseLine n data_type word (Gives (Plain word)) }
+fn release(node: u16, data_type: DataType, word: u32) -> Move
+    ensures { result ≡ Write (record { kind = ReleaseLine; node = node; data_type = data_type; word = word }) (Gives (Plain word)) }
 {
-    Move::Write {
+    let draft = Draft {
         kind: LineKind::Release,
-        node: n,
+        node,
         data_type,
         word,
-        signal: Signal::Gives(Value::Plain(word)),
-    }
+    };
+    Move::Write(draft, Signal::Gives(Value::Plain(word)))
 }
 
 impl<H: Holding + Drop> Store<H> {
@@ -157,8 +158,7 @@ impl<H: Holding + Drop> Store<H> {
         ensures below { move_below (view tables.now) n result ≡ true }
     {
         match want {
-            Want::Negate => give(self.minus(tables.level(n), figure)),
-            Want::Invert => give(self.not(tables.level(n), figure)),
+            Want::Only(operator) => give(self.apply(operator, tables.level(n), figure)),
             Want::First(operator, second) => self.resume_first(tables, n, operator, second, figure),
             Want::Second(operator, first) => self.resume_second(tables, n, operator, first, figure),
             Want::Choose(chosen, otherwise) => wait(

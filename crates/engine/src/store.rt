@@ -19,11 +19,7 @@ impl<H: Holding + Drop> Store<H> {
     pub(crate) fn read(&self, variable: usize) -> Value<Shares>
         ensures { value_of H.stands result ≡ cell variable (kept_of H.stands H.counts self.now) }
     {
-        if variable < CELLS {
-            self.cells.read(variable)
-        } else {
-            Value::Plain(0)
-        }
+        self.cells.read(variable).unwrap_or(Value::Plain(0))
     }
 
     fn write(&mut self, variable: usize, figure: Value<Shares>)

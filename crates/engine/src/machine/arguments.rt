@@ -46,23 +46,22 @@ impl<H: Holding + Drop> Machine<H> {
         ensures kept { kept H.stands H.counts self.new ≡ bound (program self.old) (procedure_at (program self.old) result.procedure).first_parameter (passed H.stands (entries self.old.control)) (kept H.stands H.counts self.old) }
     {
         match self.control.pop() {
-            Some(entry) => match entry {
-                Entry::Passed(figure) => {
-                    let call = self.bind();
-                    self.set_parameter(call.parameter, figure);
-                    Call {
-                        parameter: call.parameter + 1,
-                        ..call
-                    }
+            Some(Entry::Passed(figure)) => {
+                let call = self.bind();
+                self.set_parameter(call.parameter, figure);
+                Call {
+                    parameter: call.parameter + 1,
+                    ..call
                 }
-                Entry::Frame(frame) => match frame {
-                    Frame::Calling(node, number) => Call {
-                        node,
-                        procedure: number,
-                        parameter: procedure(&self.control.tables, number).first_parameter as usize,
-                    },
-                    _ => unreachable(),
+            }
+            // a match of its own: a last arm of the outer one would not know that the frame is no call's
+            Some(Entry::Frame(frame)) => match frame {
+                Frame::Calling(node, number) => Call {
+                    node,
+                    procedure: number,
+                    parameter: procedure(&self.control.tables, number).first_parameter as usize,
                 },
+                _ => unreachable(),
             },
             None => unreachable(),
         }

@@ -8,6 +8,7 @@ ghost use Rattle.engine.specs.Running.{program, frames, shown, kept, standing, h
 
 use super::Machine;
 use crate::frames::{Entry, Move};
+use crate::sheet::LinesFull;
 use holding::interface::Holding;
 use holding::shares::Shares;
 use semantics::lines::Outcome;
@@ -32,20 +33,13 @@ impl<H: Holding + Drop> Machine<H> {
                 None
             }
             Move::Over(signal) => Some(signal),
-            Move::Write {
-                kind,
-                node,
-                data_type,
-                word,
-                signal,
-            } => {
-                if self.sheet.write(kind, node, data_type, word) {
-                    Some(signal)
-                } else {
+            Move::Write(draft, signal) => match self.sheet.write(draft) {
+                Ok(()) => Some(signal),
+                Err(LinesFull) => {
                     self.control.end(Outcome::LinesFull);
                     None
                 }
-            }
+            },
             Move::Stop(outcome) => {
                 self.control.end(outcome);
                 None
@@ -67,13 +61,11 @@ impl<H: Holding + Drop> Machine<H> {
                 self.control.end(Outcome::Finished);
                 None
             }
-            Some(entry) => match entry {
-                Entry::Passed(_) => Some(signal),
-                Entry::Frame(frame) => {
-                    let step = self.store.meet(&self.control.tables, frame, signal);
-                    self.drive(step)
-                }
-            },
+            Some(Entry::Passed(_)) => Some(signal),
+            Some(Entry::Frame(frame)) => {
+                let step = self.store.meet(&self.control.tables, frame, signal);
+                self.drive(step)
+            }
         }
     }
 
@@ -85,10 +77,7 @@ impl<H: Holding + Drop> Machine<H> {
         ensures fits { handed_fits (program self.new) (length (entries self.new.control)) result ≡ true }
     {
         match signal {
-            Signal::Argues(figure, next) => {
-                if !self.control.in_call() {
-                    return self.meet_top(signal);
-                }
+            Signal::Argues(figure, next) if self.control.in_call() => {
                 self.pass_figure(figure, next);
                 None
             }

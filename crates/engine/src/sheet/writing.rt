@@ -1,11 +1,10 @@
 // Spending a step, and writing a line.
-ghost use Rattle.std.specs.Prelude.{◌≡◌, ◌+◌, ◌^◌, ◌<◌, not, if◌then◌else◌};
+ghost use Rattle.std.specs.Prelude.{◌≡◌, ◌+◌, ◌^◌, ◌<◌, not, is_ok, if◌then◌else◌};
 ghost use Rattle.semantics.specs.State.{tick as ticked, full, written};
 ghost use Rattle.engine.specs.View.{shown_of};
 
-use super::{LINES, Sheet};
-use semantics::lines::{Line, LineKind};
-use words::types::DataType;
+use super::{Draft, LINES, LinesFull, Sheet};
+use semantics::lines::Line;
 
 impl Sheet {
     pub(crate) fn tick(&mut self)
@@ -15,20 +14,20 @@ impl Sheet {
         self.spent += 1;
     }
 
-    // Writes a line and answers that it did, unless 256 stand.
-    pub(crate) fn write(
-        &mut self,
-        kind: LineKind,
-        node: u16,
-        data_type: DataType,
-        word: u32,
-    ) -> bool
-        ensures wrote { result ≡ not (full (shown_of self.old)) }
-        ensures after { shown_of self.new ≡ (if full (shown_of self.old) then shown_of self.old else written kind node data_type word (shown_of self.old)) }
+    // Writes a line, unless 256 stand.
+    pub(crate) fn write(&mut self, draft: Draft) -> Result<(), LinesFull>
+        ensures wrote { is_ok result ≡ not (full (shown_of self.old)) }
+        ensures after { shown_of self.new ≡ (if full (shown_of self.old) then shown_of self.old else written draft.kind draft.node draft.data_type draft.word (shown_of self.old)) }
     {
         if self.lines.len() >= LINES {
-            return false;
+            return Err(LinesFull);
         }
+        let Draft {
+            kind,
+            node,
+            data_type,
+            word,
+        } = draft;
         self.lines.push_reserved(Line {
             kind,
             node,
@@ -36,6 +35,6 @@ impl Sheet {
             data_type,
             word,
         });
-        true
+        Ok(())
     }
 }
