@@ -1,10 +1,9 @@
 -- What the parts of a run stand for. Here alone three words become the word that they stand for. Assumes nothing.
-use Rattle.std.specs.Prelude.{ℕ, List, [], ◌∷◌, map, Some, None, vec_items, Option}
+use Rattle.std.specs.Prelude.{ℕ, List, [], ◌∷◌, Some, None, Option}
 use Rattle.words.specs.Operators.{minus_word, not_word}
-use Rattle.holding.specs.declared.shares.Counts.{Counts}
 use Rattle.holding.specs.declared.shares.Shares.{Shares}
 use Rattle.semantics.specs.Machine as model
-use Rattle.semantics.specs.State.{Shown, Kept}
+use Rattle.semantics.specs.State.{Kept}
 use Rattle.semantics.specs.declared.values.Signal.{Signal}
 use Rattle.semantics.specs.declared.values.Signal.TheVariants.{Gives, Argues, Falls, Returns, Breaks, Continues}
 use Rattle.semantics.specs.declared.values.Value.{Value}
@@ -19,24 +18,16 @@ use Rattle.engine.specs.declared.frames.Frame.{Frame}
 use Rattle.engine.specs.declared.frames.Frame.TheVariants.{Wait, Then, Loop, Calling, Running}
 use Rattle.engine.specs.declared.frames.Move.{Move}
 use Rattle.engine.specs.declared.frames.Move.TheVariants.{Begin, Under, Over, Write, Stop}
-use Rattle.engine.specs.declared.sheet.Sheet.{Sheet}
-use Rattle.engine.specs.declared.store.Store.{Store}
 
 -- the word of an operator on one word
 abbrev pub unary_word : Unary → ℕ → ℕ
 unary_word Minus = minus_word
 unary_word Not = not_word
 
-abbrev pub shown_of : Sheet → Shown
-shown_of s = record { lines = vec_items s.lines; spent = s.spent }
-
 module _ (stands : Shares → ℕ) where
   abbrev pub value_of : Value Shares → Value ℕ
   value_of (Plain w) = Plain w
   value_of (Held s) = Held (stands s)
-
-  abbrev pub kept_of : {H : Type 0} → (H → Counts) → Store H → Kept
-  kept_of counts s = record { cells = map value_of s.cells.cells; counts = counts s.holding }
 
   abbrev pub returned_of : Option (Value Shares) → Option (Value ℕ)
   returned_of None = None

@@ -4,7 +4,7 @@ ghost use Rattle.semantics.specs.Machine.{meets};
 ghost use Rattle.semantics.specs.declared.values.Value.{Value};
 ghost use Rattle.tables.specs.View.{view};
 ghost use Rattle.engine.specs.Shape.{number, is_argument, is_calling, frame_below, depth_fits, signal_fits, move_fits};
-ghost use Rattle.engine.specs.View.{signal_of, frame_of, kept_of, move_of};
+ghost use Rattle.engine.specs.View.{signal_of, frame_of, move_of};
 
 use crate::begin::wait;
 use crate::frames::{Frame, Move};
@@ -21,7 +21,7 @@ impl<H: Holding + Drop> Store<H> {
     pub(crate) fn meet(&mut self, tables: &Tables, frame: Frame, signal: Signal<Shares>) -> Move
         requires below { frame_below (view tables.now) frame ≡ true }
         requires apart { (is_argument signal && is_calling frame) ≡ false }
-        ensures moves { (xs : List (Value ℕ)) → move_of H.stands result (kept_of H.stands H.counts self.new) ≡ meets (view tables.now) (frame_of H.stands xs frame) (signal_of H.stands signal) (kept_of H.stands H.counts self.old) }
+        ensures moves { (xs : List (Value ℕ)) → move_of H.stands result self.new ≡ meets (view tables.now) (frame_of H.stands xs frame) (signal_of H.stands signal) self.old }
         ensures fits { (depth : ℕ) → depth_fits (view tables.now) (number frame) depth ≡ true → signal_fits (view tables.now) (suc depth) signal ≡ true → move_fits (view tables.now) depth result ≡ true }
     {
         match (frame, signal) {

@@ -2,7 +2,7 @@
 ghost use Rattle.std.specs.Prelude.{◌≡◌};
 ghost use Rattle.semantics.specs.State.{plain_word, word_in, result as result_at, working, operated, putting, plain_result, held_result};
 ghost use Rattle.semantics.specs.declared.values.Value.TheVariants.{Held};
-ghost use Rattle.engine.specs.View.{value_of, kept_of, unary_word};
+ghost use Rattle.engine.specs.View.{value_of, unary_word};
 
 use crate::figures::plain_word;
 use crate::store::Store;
@@ -37,7 +37,7 @@ impl<H: Holding + Drop> Store<H> {
     // The holding's operator on one figure that it holds.
     fn apply_held(&mut self, operator: Unary, x: Shares) -> Shares
         ensures stands { H.stands result ≡ unary_word operator (H.stands x) }
-        ensures kept { kept_of H.stands H.counts self.new ≡ operated (kept_of H.stands H.counts self.old) }
+        ensures kept { self.new ≡ operated self.old }
     {
         match operator {
             Unary::Minus => self.holding.minus(x),
@@ -53,7 +53,7 @@ impl<H: Holding + Drop> Store<H> {
         figure: Value<Shares>,
     ) -> Value<Shares>
         ensures value { value_of H.stands result ≡ result_at level (unary_word operator (plain_word (value_of H.stands figure))) (unary_word operator (word_in (value_of H.stands figure))) }
-        ensures kept { kept_of H.stands H.counts self.new ≡ working level (value_of H.stands figure) (kept_of H.stands H.counts self.old) }
+        ensures kept { self.new ≡ working level (value_of H.stands figure) self.old }
     {
         match level {
             0 => Value::Plain(apply_word(operator, plain_word(figure))),
@@ -67,7 +67,7 @@ impl<H: Holding + Drop> Store<H> {
     // The holding's operator on two figures that it holds.
     fn combine_held(&mut self, operator: Operator, x: Shares, y: Shares) -> Shares
         ensures stands { H.stands result ≡ held_result operator (H.stands x) (H.stands y) }
-        ensures kept { kept_of H.stands H.counts self.new ≡ operated (kept_of H.stands H.counts self.old) }
+        ensures kept { self.new ≡ operated self.old }
     {
         match operator {
             Operator::Arithmetic(operator, data_type) => self
@@ -89,7 +89,7 @@ impl<H: Holding + Drop> Store<H> {
         y: Value<Shares>,
     ) -> Value<Shares>
         ensures value { value_of H.stands result ≡ Held (held_result operator (word_in (value_of H.stands x)) (word_in (value_of H.stands y))) }
-        ensures kept { kept_of H.stands H.counts self.new ≡ operated (putting (value_of H.stands y) (putting (value_of H.stands x) (kept_of H.stands H.counts self.old))) }
+        ensures kept { self.new ≡ operated (putting (value_of H.stands y) (putting (value_of H.stands x) self.old)) }
     {
         let first = self.hold(x);
         let second = self.hold(y);

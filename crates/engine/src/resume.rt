@@ -7,7 +7,7 @@ ghost use Rattle.semantics.specs.declared.values.Signal.TheVariants.{Gives, Fall
 ghost use Rattle.semantics.specs.declared.values.Value.TheVariants.{Plain};
 ghost use Rattle.tables.specs.View.{view};
 ghost use Rattle.engine.specs.Shape.{want_below, move_below};
-ghost use Rattle.engine.specs.View.{value_of, want_of, kept_of, move_of};
+ghost use Rattle.engine.specs.View.{value_of, want_of, move_of};
 ghost use Rattle.engine.specs.declared.frames.Frame.TheVariants.{Loop};
 ghost use Rattle.engine.specs.declared.frames.Move.TheVariants.{Begin, Under, Over, Write};
 
@@ -95,7 +95,7 @@ impl<H: Holding + Drop> Store<H> {
         figure: Value<Shares>,
     ) -> Move
         requires { nat_lt second n ≡ true }
-        ensures moves { move_of H.stands result (kept_of H.stands H.counts self.new) ≡ got (view tables.now) n (first operator second) (value_of H.stands figure) (kept_of H.stands H.counts self.old) }
+        ensures moves { move_of H.stands result self.new ≡ got (view tables.now) n (first operator second) (value_of H.stands figure) self.old }
         ensures below { move_below (view tables.now) n result ≡ true }
     {
         if decides(operator, figure) {
@@ -114,7 +114,7 @@ impl<H: Holding + Drop> Store<H> {
         x: Value<Shares>,
         y: Value<Shares>,
     ) -> Move
-        ensures moves { move_of H.stands result (kept_of H.stands H.counts self.new) ≡ got_both (view tables.now) n operator (value_of H.stands x) (value_of H.stands y) (kept_of H.stands H.counts self.old) }
+        ensures moves { move_of H.stands result self.new ≡ got_both (view tables.now) n operator (value_of H.stands x) (value_of H.stands y) self.old }
         ensures below { move_below (view tables.now) n result ≡ true }
     {
         match tables.level(n) {
@@ -138,7 +138,7 @@ impl<H: Holding + Drop> Store<H> {
 
     fn assign(&mut self, tables: &Tables, variable: u16, figure: Value<Shares>) -> Value<Shares>
         ensures value { value_of H.stands result ≡ settled (level_at (view tables.now) variable) (value_of H.stands figure) }
-        ensures kept { kept_of H.stands H.counts self.new ≡ stored variable (level_at (view tables.now) variable) (value_of H.stands figure) (kept_of H.stands H.counts self.old) }
+        ensures kept { self.new ≡ stored variable (level_at (view tables.now) variable) (value_of H.stands figure) self.old }
     {
         let variable = variable as usize;
         self.set(variable, tables.variable_level(variable), figure)
@@ -154,7 +154,7 @@ impl<H: Holding + Drop> Store<H> {
         figure: Value<Shares>,
     ) -> Move
         requires { want_below n want ≡ true }
-        ensures moves { move_of H.stands result (kept_of H.stands H.counts self.new) ≡ got (view tables.now) n (want_of H.stands want) (value_of H.stands figure) (kept_of H.stands H.counts self.old) }
+        ensures moves { move_of H.stands result self.new ≡ got (view tables.now) n (want_of H.stands want) (value_of H.stands figure) self.old }
         ensures below { move_below (view tables.now) n result ≡ true }
     {
         match want {

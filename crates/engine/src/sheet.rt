@@ -1,7 +1,6 @@
 // What everyone may know of a run: its lines, and the steps spent. Lines are written and steps spent here alone.
-ghost use Rattle.std.specs.Prelude.{◌≤◌, vec_capacity};
-
 use semantics::lines::{Line, LineKind};
+use std::marker::Model;
 use words::types::DataType;
 
 mod writing;
@@ -22,9 +21,20 @@ pub struct Draft {
 #[derive(Clone, Copy)]
 pub struct LinesFull;
 
+// Clauses see the lines and the steps. There is room for all that may ever be written.
 #[derive(Drop)]
 pub struct Sheet {
-    pub lines: Vec<Line>,
-    pub spent: u32,
-    ghost room: { 256 ≤ vec_capacity lines },
+    lines: Vec<Line>,
+    spent: u32,
+}
+
+impl Model for Sheet {
+    ghost use Rattle.std.specs.Prelude.{◌≤◌, vec_capacity, vec_items};
+    ghost use Rattle.semantics.specs.State.{Shown};
+
+    ghost Value = { Shown };
+
+    ghost view = { λ s. record { lines = vec_items s.lines; spent = s.spent } };
+
+    ghost invariant = { λ s. 256 ≤ vec_capacity s.lines };
 }

@@ -4,7 +4,7 @@ ghost use Rattle.semantics.specs.Machine as model;
 ghost use Rattle.engine.specs.Shape.{is_argument, in_call, signal_fits, move_fits};
 ghost use Rattle.engine.specs.Standing.{entries};
 ghost use Rattle.engine.specs.View.{move_of};
-ghost use Rattle.engine.specs.Running.{program, frames, shown, kept, standing, handing, handed_fits, HandedSame, HandedLess};
+ghost use Rattle.engine.specs.Running.{program, frames, standing, handing, handed_fits, HandedSame, HandedLess};
 
 use super::Machine;
 use crate::frames::{Entry, Move};
@@ -19,7 +19,7 @@ impl<H: Holding + Drop> Machine<H> {
     pub(crate) fn drive(&mut self, step: Move) -> Option<Signal<Shares>>
         requires { move_fits (program self.old) (length (entries self.old.control)) step ≡ true }
         ensures tables { self.new.control.tables ≡ self.old.control.tables }
-        ensures stands { handing H.stands H.counts result self.new ≡ (let m = self.old in model.drive (program m) (frames H.stands H.counts m) (model.pass (program m) (frames H.stands H.counts m)) (shown H.stands H.counts m) (move_of H.stands step (kept H.stands H.counts m))) }
+        ensures stands { handing H.stands result self.new ≡ (let m = self.old in model.drive (program m) (frames H.stands m) (model.pass (program m) (frames H.stands m)) m.sheet (move_of H.stands step m.store)) }
         ensures entries { HandedSame result (entries self.old.control) (entries self.new.control) }
         ensures fits { handed_fits (program self.new) (length (entries self.new.control)) result ≡ true }
     {
@@ -52,7 +52,7 @@ impl<H: Holding + Drop> Machine<H> {
         requires fits { signal_fits (program self.old) (length (entries self.old.control)) signal ≡ true }
         requires apart { (is_argument signal && in_call (entries self.old.control)) ≡ false }
         ensures tables { self.new.control.tables ≡ self.old.control.tables }
-        ensures stands { handing H.stands H.counts result self.new ≡ handing H.stands H.counts (Some signal) self.old }
+        ensures stands { handing H.stands result self.new ≡ handing H.stands (Some signal) self.old }
         ensures entries { HandedLess result (entries self.old.control) (entries self.new.control) }
         ensures fits { handed_fits (program self.new) (length (entries self.new.control)) result ≡ true }
     {
@@ -72,7 +72,7 @@ impl<H: Holding + Drop> Machine<H> {
     fn meet(&mut self, signal: Signal<Shares>) -> Option<Signal<Shares>>
         requires { signal_fits (program self.old) (length (entries self.old.control)) signal ≡ true }
         ensures tables { self.new.control.tables ≡ self.old.control.tables }
-        ensures stands { handing H.stands H.counts result self.new ≡ handing H.stands H.counts (Some signal) self.old }
+        ensures stands { handing H.stands result self.new ≡ handing H.stands (Some signal) self.old }
         ensures entries { HandedLess result (entries self.old.control) (entries self.new.control) }
         ensures fits { handed_fits (program self.new) (length (entries self.new.control)) result ≡ true }
     {
@@ -89,7 +89,7 @@ impl<H: Holding + Drop> Machine<H> {
     pub(crate) fn pass(&mut self, handed: Option<Signal<Shares>>)
         requires { handed_fits (program self.old) (length (entries self.old.control)) handed ≡ true }
         ensures tables { self.new.control.tables ≡ self.old.control.tables }
-        ensures stands { standing H.stands H.counts self.new ≡ handing H.stands H.counts handed self.old }
+        ensures stands { standing H.stands self.new ≡ handing H.stands handed self.old }
     {
         let mut handed = handed;
         while let Some(signal) = handed {

@@ -30,7 +30,7 @@ pub(crate) fn open<H: Holding + Drop>(
 }
 
 pub(crate) fn run<H: Holding + Drop>(rt: &impl Abort, machine: &mut Machine<H>, steps: u16) {
-    assert!(rt; machine.sheet.spent < 10000);
+    assert!(rt; machine.sheet.spent() < 10000);
     machine.run(u32::from(steps));
 }
 
@@ -60,7 +60,7 @@ pub(crate) fn check_stands<H: Holding + Drop>(
     counts: Counts,
 ) {
     assert_eq!(rt; outcome(machine.control.next), how);
-    assert_eq!(rt; machine.sheet.spent, spent);
+    assert_eq!(rt; machine.sheet.spent(), spent);
     assert_eq!(rt; machine.store.holding.tally(), counts);
 }
 
@@ -69,10 +69,10 @@ pub(crate) fn check_lines<H: Holding + Drop>(
     machine: &Machine<H>,
     rows: &[LineRow],
 ) {
-    for (written, row) in machine.sheet.lines.iter().zip(rows) {
+    for (written, row) in machine.sheet.lines().iter().zip(rows) {
         assert_eq!(rt; *written, line(*row));
     }
-    assert_eq!(rt; machine.sheet.lines.len(), rows.len());
+    assert_eq!(rt; machine.sheet.lines().len(), rows.len());
 }
 
 // Two machines stand alike and have written the same lines.
@@ -82,7 +82,7 @@ pub(crate) fn check_alike<H: Holding + Drop>(
     other: &Machine<H>,
 ) {
     assert_eq!(rt; one.control.next, other.control.next);
-    assert_eq!(rt; one.sheet.spent, other.sheet.spent);
+    assert_eq!(rt; one.sheet.spent(), other.sheet.spent());
     assert_eq!(rt; one.store.holding.tally(), other.store.holding.tally());
-    assert_eq!(rt; one.sheet.lines.as_slice(), other.sheet.lines.as_slice());
+    assert_eq!(rt; one.sheet.lines(), other.sheet.lines());
 }

@@ -3,7 +3,6 @@ use Rattle.program.specs.declared.records.Procedure.{Procedure}
 use Rattle.tables.specs.View.{view}
 use Rattle.engine.specs.Shape.{in_call}
 use Rattle.engine.specs.Standing.{entries}
-use Rattle.engine.specs.Running.{kept}
 use Rattle.engine.specs.declared.control.Control.{Control}
 use Rattle.engine.specs.declared.frames.Entry.{Entry}
 use Rattle.engine.proofs.Passing.{passed_short, passed_in_call, framed_in_call, none_in_call, passed_call, framed_call, bound_none, bound_one}
@@ -48,7 +47,7 @@ returns-in-Some-Passed g t c =
     let call = c.bind-call.result in
     let top = c.in-Some-Passed.ensures.entries ∙ ap (λ (x : Entry). x ∷ entries p) c.in-Some-Passed.field-0-is in
     let same = c.bind-call.ensures.tables ∙ c.pop.ensures.tables in
-    let more = bound_one h.stands (view s.tables) (view p.tables) (view b.control.tables) call.procedure call.parameter c.in-Some-Passed.figure (entries s) (entries p) (kept h.stands h.counts m) (kept h.stands h.counts b) (kept h.stands h.counts c.set_parameter.new.self) (ap view c.pop.ensures.tables) (ap view same) top c.bind-call.ensures.parameter c.bind-call.ensures.kept c.set_parameter.ensures.kept in
+    let more = bound_one h.stands (view s.tables) (view p.tables) (view b.control.tables) call.procedure call.parameter c.in-Some-Passed.figure (entries s) (entries p) m.store b.store c.set_parameter.new.self.store (ap view c.pop.ensures.tables) (ap view same) top c.bind-call.ensures.parameter c.bind-call.ensures.kept c.set_parameter.ensures.kept in
     let calls = passed_call c.in-Some-Passed.figure (entries s) (entries p) top in
     record {
       tables = ap (λ (x : Control). x.tables) c.set_parameter.ensures.control ∙ same;
@@ -68,7 +67,7 @@ returns-in-Calling g t c =
     let p = c.pop.new.self in
     let top = c.in-Some-Frame.ensures.entries ∙ ap (λ (x : Entry). x ∷ entries p) c.in-Some-Frame.field-0-is in
     let calls = framed_call c.in-Some-Frame.frame (entries s) (entries p) top in
-    let none = bound_none h.stands (view s.tables) (view p.tables) c.in-Calling.number c.procedure.result.first_parameter c.in-Some-Frame.frame (entries s) (entries p) (kept h.stands h.counts m) (ap view c.pop.ensures.tables) top (ap (λ (d : Procedure). d.first_parameter) c.procedure.ensures) in
+    let none = bound_none h.stands (view s.tables) (view p.tables) c.in-Calling.number c.procedure.result.first_parameter c.in-Some-Frame.frame (entries s) (entries p) m.store (ap view c.pop.ensures.tables) top (ap (λ (d : Procedure). d.first_parameter) c.procedure.ensures) in
     let few : c.procedure.result.first_parameter < 65536 = search rules in
     record {
       tables = c.pop.ensures.tables;

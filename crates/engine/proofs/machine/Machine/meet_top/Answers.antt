@@ -3,7 +3,6 @@ use Rattle.tables.specs.View.{view}
 use Rattle.tables.specs.declared.tables.Tables.{Tables}
 use Rattle.engine.specs.Shape.{number, is_argument, in_call, frame_below, depth_fits, signal_fits}
 use Rattle.engine.specs.Standing.{entries}
-use Rattle.engine.specs.Running.{shown, kept}
 use Rattle.engine.specs.declared.frames.Entry.{Entry}
 use Rattle.engine.proofs.Meeting.{framed_fits, passed_fits, framed_apart, no_argument, emptied, met, past_figure, signal_less, handed_less}
 use Rattle.engine.proofs.machine.Machine.meet_top.Goals as goal
@@ -37,7 +36,7 @@ returns-in-None g c =
     let p = c.end.new.self in
     record {
       tables = c.end.ensures.tables ∙ c.pop.ensures.tables;
-      stands = emptied h.stands (view m.control.tables) p.next (entries m.control) (entries p) c.args.signal (shown h.stands h.counts m) (kept h.stands h.counts m) c.end.ensures.next c.in-None.ensures.entries.0;
+      stands = emptied h.stands (view m.control.tables) p.next (entries m.control) (entries p) c.args.signal m.sheet m.store c.end.ensures.next c.in-None.ensures.entries.0;
       entries = tt;
       fits = refl;
     }
@@ -53,7 +52,7 @@ returns-in-Some-Passed g c =
     let none = no_argument (is_argument z) (in_call (entries s)) (passed_fits (view s.tables) _ (entries s) (entries p) top s.fits) c.requires.apart in
     record {
       tables = c.pop.ensures.tables;
-      stands = past_figure h.stands (view s.tables) (view p.tables) _ (entries s) (entries p) z (shown h.stands h.counts m) (kept h.stands h.counts m) (ap view c.pop.ensures.tables) top none;
+      stands = past_figure h.stands (view s.tables) (view p.tables) _ (entries s) (entries p) z m.sheet m.store (ap view c.pop.ensures.tables) top none;
       entries = omega (arith, ap length top);
       fits = signal_less (view p.tables) z (length (entries p)) none;
     }
@@ -69,7 +68,7 @@ returns-in-Some-Frame g c =
       tables = c.drive.ensures.tables ∙ c.pop.ensures.tables;
       stands =
           c.drive.ensures.stands
-          ∙ met h.stands (view s.tables) (view p.tables) c.in-Some-Frame.frame (entries s) (entries p) c.args.signal (shown h.stands h.counts m) (kept h.stands h.counts m) _ (ap view c.pop.ensures.tables) top (c.meet-step.ensures.moves []);
+          ∙ met h.stands (view s.tables) (view p.tables) c.in-Some-Frame.frame (entries s) (entries p) c.args.signal m.sheet m.store _ (ap view c.pop.ensures.tables) top (c.meet-step.ensures.moves []);
       entries = handed_less c.drive.result (entries s) (entries p) (entries c.drive.new.self.control) (omega (arith, ap length top)) c.drive.ensures.entries;
       fits = c.drive.ensures.fits;
     }
