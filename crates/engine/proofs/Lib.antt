@@ -1,6 +1,5 @@
 pub mod Numbered
 pub mod Cleared
-pub mod Depths
 pub mod Stacks
 pub mod Meeting
 pub mod Passing

@@ -16,8 +16,7 @@ use Rattle.typing.proofs.Tabled.{at_there}
 use Rattle.semantics.specs.Checked.{Checked, Descends}
 use Rattle.semantics.specs.Fitting.{environment_of}
 use Rattle.semantics.specs.Machine as model
-use Rattle.semantics.specs.State.{Kept, procedure, stored}
-use Rattle.semantics.specs.declared.lines.Line.{Line}
+use Rattle.semantics.specs.State.{Shown, Kept, procedure, stored}
 use Rattle.semantics.specs.declared.values.Value.TheVariants.{Plain}
 use Rattle.semantics.proofs.Checked.{checked, checked_descends}
 use Rattle.semantics.specs.Opening.{unset, zeroed, main, opened}
@@ -75,10 +74,10 @@ nothing_fits e items n h lt = (
   ap (λ (es : List Entry). depth_fits e n (length (reverse es))) h ∙ lt-ltb (n + 0) (length e.nodes) (omega (arith, lt)),
 )
 
-pub opened_is : (stands : Shares → ℕ) (e : Environment) (c : Counts) (n : ℕ) (items : List Entry) (lines : List Line) (k : Kept) → n ≡ (procedure e (main e)).body → items ≡ [] → lines ≡ [] → k ≡ zeroed 0 e.variables (unset c) → model.at n (frames_of stands [] (reverse items)) (record { lines = lines; spent = 0 }) k ≡ opened e c
+pub opened_is : (stands : Shares → ℕ) (e : Environment) (c : Counts) (n : ℕ) (items : List Entry) (s : Shown) (k : Kept) → n ≡ (procedure e (main e)).body → items ≡ [] → s ≡ record { lines = []; spent = 0 } → k ≡ zeroed 0 e.variables (unset c) → model.at n (frames_of stands [] (reverse items)) s k ≡ opened e c
 unfolding frames_of
-opened_is stands e c n items lines k b i l z =
-    ap (λ (m : ℕ). model.at m (frames_of stands [] (reverse items)) (record { lines = lines; spent = 0 }) k) b
-    ∙ ap (λ (es : List Entry). model.at (procedure e (main e)).body (frames_of stands [] (reverse es)) (record { lines = lines; spent = 0 }) k) i
-    ∙ ap (λ (ls : List Line). model.at (procedure e (main e)).body [] (record { lines = ls; spent = 0 }) k) l
+opened_is stands e c n items s k b i l z =
+    ap (λ (m : ℕ). model.at m (frames_of stands [] (reverse items)) s k) b
+    ∙ ap (λ (es : List Entry). model.at (procedure e (main e)).body (frames_of stands [] (reverse es)) s k) i
+    ∙ ap (λ (t : Shown). model.at (procedure e (main e)).body [] t k) l
     ∙ ap (model.at (procedure e (main e)).body [] (record { lines = []; spent = 0 })) z

@@ -1,5 +1,5 @@
 -- The entries of a stack, one more or one less.
-use Rattle.std.proofs.Common.{◌≡◌, ℕ, suc, ◌+◌, ◌-◌, ◌<◌, ◌≤◌, true, ◌&&◌, ltb, List, [], ◌∷◌, ◌++◌, reverse, length, get_or, take, is_some, Some, None, Option, sym, refl, ap, ◌∙◌, arith, length-append, take_all, take-suc}
+use Rattle.std.proofs.Common.{◌≡◌, ◌+◌, ◌≤◌, true, ◌&&◌, ltb, List, [], ◌∷◌, ◌++◌, reverse, length, is_some, Some, None, Option, sym, refl, ap, ◌∙◌, arith, length-append}
 use Rattle.std.proofs.lemmas.List.{nil_from_length, reverse-append}
 use Rattle.std.proofs.lemmas.Bool.{and_parts, ltb-true, ltb-false, lt-ltb}
 use Rattle.std.specs.Option.{option_to_list}
@@ -14,22 +14,12 @@ use Rattle.engine.specs.declared.frames.Next.TheVariants.{Begin, Ended}
 pub reversed : {X : Type 0} (xs ys : List X) (x : X) → ys ≡ xs ++ x ∷ [] → reverse ys ≡ x ∷ reverse xs
 reversed xs ys x h = ap reverse h ∙ reverse-append xs (x ∷ [])
 
-pub top_is : (xs : List Entry) (n : ℕ) (x : Entry) → length xs ≡ n → 0 < n → x ≡ get_or xs (n - 1) x → Some x ≡ top_of (reverse xs)
-top_is xs n x l h e =
-    let lt : n - 1 < length xs = omega (arith, l, h) in
-    let whole : take (suc (n - 1)) xs ≡ xs = take_all (suc (n - 1)) xs (omega (arith, l, h)) in
-    let split : xs ≡ take (n - 1) xs ++ x ∷ [] = sym whole ∙ take-suc xs (n - 1) x lt ∙ ap (λ (y : Entry). take (n - 1) xs ++ y ∷ []) (sym e) in
-    sym (ap top_of (reversed (take (n - 1) xs) xs x split))
-
 pub top_tells : (e : Environment) (es : List Entry) → stack_fits e es ≡ true → is_of_call (top_of es) ≡ in_call es
 unfolding in_call stack_fits
 top_tells e [] h = refl
 top_tells e (Framed f ∷ es) h = refl
 top_tells e (Passed x ∷ es) h =
     sym (and_parts (in_call es) (depth_fits e 0 (length es)) (and_parts (in_call es && depth_fits e 0 (length es)) (stack_fits e es) h).0).0
-
-pub no_top : (xs : List Entry) → length xs ≡ 0 → None ≡ top_of (reverse xs)
-no_top xs e = sym (ap (λ (ys : List Entry). top_of (reverse ys)) (nil_from_length xs e))
 
 pub popped : (xs ys : List Entry) (o : Option Entry) → xs ≡ ys ++ option_to_list o → is_some o ≡ ltb 0 (length xs) → Popped o (reverse xs) (reverse ys)
 popped xs ys None h t =

@@ -1,6 +1,5 @@
 -- Where a machine stands. Assumes nothing.
 use Rattle.std.specs.Prelude.{◌≡◌, ℕ, suc, ◌<◌, Bool, true, List, [], length, Some, None, Option}
-use Rattle.holding.specs.declared.shares.Counts.{Counts}
 use Rattle.holding.specs.declared.shares.Shares.{Shares}
 use Rattle.typing.specs.Environment.{Environment}
 use Rattle.tables.specs.View.{view}
@@ -9,7 +8,7 @@ use Rattle.semantics.specs.State.{Shown, Kept}
 use Rattle.semantics.specs.declared.values.Signal.{Signal}
 use Rattle.engine.specs.Shape.{signal_fits}
 use Rattle.engine.specs.Standing.{entries}
-use Rattle.engine.specs.View.{shown_of, kept_of, signal_of, frames_of}
+use Rattle.engine.specs.View.{signal_of, frames_of}
 use Rattle.engine.specs.declared.frames.Entry.{Entry}
 use Rattle.engine.specs.declared.frames.Next.{Next}
 use Rattle.engine.specs.declared.frames.Next.TheVariants.{Begin, Ended}
@@ -41,20 +40,14 @@ abbrev pub still_to_meet : Option (Signal Shares) → List Entry → ℕ
 still_to_meet None es = 0
 still_to_meet (Some z) es = suc (length es)
 
-module _ (stands : Shares → ℕ) {H : Type 0} (counts : H → Counts) where
+module _ (stands : Shares → ℕ) {H : Type 0} where
   abbrev pub frames : Machine H → List model.Frame
   frames m = frames_of stands [] (entries m.control)
 
-  abbrev pub shown : Machine H → Shown
-  shown m = shown_of m.sheet
-
-  abbrev pub kept : Machine H → Kept
-  kept m = kept_of stands counts m.store
-
   abbrev pub standing : Machine H → model.Config
-  standing m = config_of m.control.next (frames m) (shown m) (kept m)
+  standing m = config_of m.control.next (frames m) m.sheet m.store
 
   -- where it stands once a signal that goes on up has been met
   abbrev pub handing : Option (Signal Shares) → Machine H → model.Config
   handing None m = standing m
-  handing (Some z) m = model.pass (program m) (frames m) (signal_of stands z) (shown m) (kept m)
+  handing (Some z) m = model.pass (program m) (frames m) (signal_of stands z) m.sheet m.store

@@ -6,7 +6,7 @@ use Rattle.semantics.specs.State.{procedure}
 use Rattle.semantics.specs.declared.values.Signal.{Signal}
 use Rattle.semantics.specs.declared.values.Signal.TheVariants.{Gives, Argues, Falls, Returns, Breaks, Continues}
 use Rattle.engine.specs.declared.wants.Want.{Want}
-use Rattle.engine.specs.declared.wants.Want.TheVariants.{Negate, Invert, First, Second, Choose, Chosen, Assign, Argue, Release, Output, Discard, Branch, BranchElse, Guard, Return}
+use Rattle.engine.specs.declared.wants.Want.TheVariants.{Only, First, Second, Choose, Chosen, Assign, Argue, Release, Output, Discard, Branch, BranchElse, Guard, Return}
 use Rattle.engine.specs.declared.frames.Entry.{Entry}
 use Rattle.engine.specs.declared.frames.Entry.TheVariants.{Frame as Framed, Passed}
 use Rattle.engine.specs.declared.frames.Frame.{Frame}
@@ -23,8 +23,7 @@ next_below n None = true
 next_below n (Some m) = nat_lt m n
 
 abbrev pub want_below : ℕ → Want Shares → Bool
-want_below n Negate = true
-want_below n Invert = true
+want_below n (Only o) = true
 want_below n (First o b) = nat_lt b n
 want_below n (Second o x) = true
 want_below n (Choose b c) = nat_lt b n && nat_lt c n
@@ -93,7 +92,7 @@ module _ (e : Environment) where
   move_below n (Begin m) = nat_lt m n
   move_below n (Under f m) = number f == n && (frame_below f && nat_lt m n)
   move_below n (Over z) = signal_below n z
-  move_below n (Write kind m t w z) = signal_below n z
+  move_below n (Write d z) = signal_below n z
   move_below n (Stop o) = true
 
   -- a node's number and its depth together stay below the count of the nodes
@@ -124,7 +123,7 @@ module _ (e : Environment) where
   move_fits depth (Begin m) = depth_fits m depth
   move_fits depth (Under f m) = (frame_below f && depth_fits (number f) depth) && depth_fits m (suc depth)
   move_fits depth (Over z) = signal_fits depth z
-  move_fits depth (Write kind m t w z) = signal_fits depth z
+  move_fits depth (Write d z) = signal_fits depth z
   move_fits depth (Stop o) = true
 
   abbrev pub next_fits : ℕ → Next → Bool

@@ -1,34 +1,33 @@
 -- What the parts of a run stand for. Here alone three words become the word that they stand for. Assumes nothing.
-use Rattle.std.specs.Prelude.{ℕ, List, [], ◌∷◌, map, Some, None, vec_items, Option}
-use Rattle.holding.specs.declared.shares.Counts.{Counts}
+use Rattle.std.specs.Prelude.{ℕ, List, [], ◌∷◌, Some, None, Option}
+use Rattle.words.specs.Operators.{minus_word, not_word}
 use Rattle.holding.specs.declared.shares.Shares.{Shares}
 use Rattle.semantics.specs.Machine as model
-use Rattle.semantics.specs.State.{Shown, Kept}
+use Rattle.semantics.specs.State.{Kept}
 use Rattle.semantics.specs.declared.values.Signal.{Signal}
 use Rattle.semantics.specs.declared.values.Signal.TheVariants.{Gives, Argues, Falls, Returns, Breaks, Continues}
 use Rattle.semantics.specs.declared.values.Value.{Value}
 use Rattle.semantics.specs.declared.values.Value.TheVariants.{Plain, Held}
+use Rattle.engine.specs.declared.wants.Unary.{Unary}
+use Rattle.engine.specs.declared.wants.Unary.TheVariants.{Minus, Not}
 use Rattle.engine.specs.declared.wants.Want.{Want}
-use Rattle.engine.specs.declared.wants.Want.TheVariants.{Negate, Invert, First, Second, Choose, Chosen, Assign, Argue, Release, Output, Discard, Branch, BranchElse, Guard, Return}
+use Rattle.engine.specs.declared.wants.Want.TheVariants.{Only, First, Second, Choose, Chosen, Assign, Argue, Release, Output, Discard, Branch, BranchElse, Guard, Return}
 use Rattle.engine.specs.declared.frames.Entry.{Entry}
 use Rattle.engine.specs.declared.frames.Entry.TheVariants.{Frame as Framed, Passed}
 use Rattle.engine.specs.declared.frames.Frame.{Frame}
 use Rattle.engine.specs.declared.frames.Frame.TheVariants.{Wait, Then, Loop, Calling, Running}
 use Rattle.engine.specs.declared.frames.Move.{Move}
 use Rattle.engine.specs.declared.frames.Move.TheVariants.{Begin, Under, Over, Write, Stop}
-use Rattle.engine.specs.declared.sheet.Sheet.{Sheet}
-use Rattle.engine.specs.declared.store.Store.{Store}
 
-abbrev pub shown_of : Sheet → Shown
-shown_of s = record { lines = vec_items s.lines; spent = s.spent }
+-- the word of an operator on one word
+abbrev pub unary_word : Unary → ℕ → ℕ
+unary_word Minus = minus_word
+unary_word Not = not_word
 
 module _ (stands : Shares → ℕ) where
   abbrev pub value_of : Value Shares → Value ℕ
   value_of (Plain w) = Plain w
   value_of (Held s) = Held (stands s)
-
-  abbrev pub kept_of : {H : Type 0} → (H → Counts) → Store H → Kept
-  kept_of counts s = record { cells = map value_of s.cells.cells; counts = counts s.holding }
 
   abbrev pub returned_of : Option (Value Shares) → Option (Value ℕ)
   returned_of None = None
@@ -43,8 +42,8 @@ module _ (stands : Shares → ℕ) where
   signal_of Continues = Continues
 
   abbrev pub want_of : Want Shares → model.Want
-  want_of Negate = model.negating
-  want_of Invert = model.inverting
+  want_of (Only Minus) = model.negating
+  want_of (Only Not) = model.inverting
   want_of (First o b) = model.first o b
   want_of (Second o x) = model.second o (value_of x)
   want_of (Choose b c) = model.choosing b c
@@ -78,5 +77,5 @@ module _ (stands : Shares → ℕ) where
   move_of (Begin n) k = model.begin n k
   move_of (Under f n) k = model.under (frame_of [] f) n k
   move_of (Over z) k = model.over (signal_of z) k
-  move_of (Write kind n t w z) k = model.line kind n t w (signal_of z) k
+  move_of (Write d z) k = model.line d.kind d.node d.data_type d.word (signal_of z) k
   move_of (Stop o) k = model.stop o k

@@ -9,14 +9,14 @@ ghost use Rattle.semantics.specs.declared.values.Value.TheVariants.{Plain};
 ghost use Rattle.engine.specs.declared.wants.Want.TheVariants.{First, Release, Output};
 ghost use Rattle.tables.specs.View.{view};
 ghost use Rattle.engine.specs.Shape.{move_below};
-ghost use Rattle.engine.specs.View.{kept_of, move_of};
+ghost use Rattle.engine.specs.View.{move_of};
 ghost use Rattle.engine.specs.declared.frames.Frame.TheVariants.{Wait};
 ghost use Rattle.engine.specs.declared.frames.Move.TheVariants.{Under, Over};
 
 use crate::frames::{Frame, Move};
 use crate::records::{figure_type, typed_node};
 use crate::store::Store;
-use crate::wants::Want;
+use crate::wants::{Unary, Want};
 use holding::interface::Holding;
 use holding::shares::Shares;
 use program::records::Node;
@@ -61,7 +61,7 @@ impl<H: Holding + Drop> Store<H> {
     // The definition of a local sets its cell to 0.
     fn define(&mut self, tables: &Tables, variable: u16) -> Move
         ensures answer { result ≡ Over Falls }
-        ensures kept { kept_of H.stands H.counts self.new ≡ stored variable (level_at (view tables.now) variable) (Plain 0) (kept_of H.stands H.counts self.old) }
+        ensures kept { self.new ≡ stored variable (level_at (view tables.now) variable) (Plain 0) self.old }
     {
         let level = tables.variable_level(variable as usize);
         self.set(variable as usize, level, Value::Plain(0));
@@ -72,14 +72,14 @@ impl<H: Holding + Drop> Store<H> {
     #[tactic(auto, unfolding(semantics::specs::Machine::begins))]
     fn begin_node(&mut self, tables: &Tables, n: u16, node: Node) -> Move
         requires { descends (view tables.now) n node ≡ true }
-        ensures moves { move_of H.stands result (kept_of H.stands H.counts self.new) ≡ begins (view tables.now) n node (kept_of H.stands H.counts self.old) }
+        ensures moves { move_of H.stands result self.new ≡ begins (view tables.now) n node self.old }
         ensures below { move_below (view tables.now) n result ≡ true }
     {
         match node {
             Node::Constant { word, .. } => Move::Over(Signal::Gives(Value::Plain(word))),
             Node::Variable { variable } => Move::Over(Signal::Gives(self.read(variable as usize))),
-            Node::Minus { operand } => wait(n, Want::Negate, operand),
-            Node::Not { operand } => wait(n, Want::Invert, operand),
+            Node::Minus { operand } => wait(n, Want::Only(Unary::Minus), operand),
+            Node::Not { operand } => wait(n, Want::Only(Unary::Not), operand),
             Node::Arithmetic {
                 operator,
                 left,
@@ -122,7 +122,7 @@ impl<H: Holding + Drop> Store<H> {
 
     pub(crate) fn begin(&mut self, tables: &Tables, n: u16) -> Move
         requires { Descends (view tables.now) }
-        ensures moves { move_of H.stands result (kept_of H.stands H.counts self.new) ≡ begins (view tables.now) n (node_of (view tables.now) n) (kept_of H.stands H.counts self.old) }
+        ensures moves { move_of H.stands result self.new ≡ begins (view tables.now) n (node_of (view tables.now) n) self.old }
         ensures below { move_below (view tables.now) n result ≡ true }
     {
         self.begin_node(tables, n, typed_node(tables, n).node)

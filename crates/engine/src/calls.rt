@@ -5,7 +5,7 @@ ghost use Rattle.semantics.specs.State.{stored, is_local_of, cleared, procedure 
 ghost use Rattle.semantics.specs.declared.values.Value.TheVariants.{Plain};
 ghost use Rattle.tables.specs.View.{view};
 ghost use Rattle.engine.specs.Shape.{next_below, move_below};
-ghost use Rattle.engine.specs.View.{kept_of, move_of};
+ghost use Rattle.engine.specs.View.{move_of};
 
 use crate::frames::{Frame, Move};
 use crate::records::procedure;
@@ -18,16 +18,13 @@ use tables::tables::Tables;
 fn is_local_of(number: u16, role: Role) -> bool
     ensures { result ≡ is_local_of number role }
 {
-    match role {
-        Role::Local { procedure } => procedure == number,
-        Role::Global | Role::Input | Role::Parameter { .. } => false,
-    }
+    role == Role::Local { procedure: number }
 }
 
 impl<H: Holding + Drop> Store<H> {
     // A variable becomes 0 if it is a local of the procedure.
     fn clear_local(&mut self, i: usize, variable: Variable, number: u16)
-        ensures { kept_of H.stands H.counts self.new ≡ (if is_local_of number variable.role then stored i variable.level (Plain 0) (kept_of H.stands H.counts self.old) else kept_of H.stands H.counts self.old) }
+        ensures { self.new ≡ (if is_local_of number variable.role then stored i variable.level (Plain 0) self.old else self.old) }
     {
         if is_local_of(number, variable.role) {
             self.set(i, variable.level, Value::Plain(0));
@@ -36,7 +33,7 @@ impl<H: Holding + Drop> Store<H> {
 
     // The locals of a procedure become 0, in the order of their numbers.
     fn clear(&mut self, variables: &[Variable], number: u16)
-        ensures { kept_of H.stands H.counts self.new ≡ cleared number 0 variables.now (kept_of H.stands H.counts self.old) }
+        ensures { self.new ≡ cleared number 0 variables.now self.old }
     {
         for (i, variable) in variables.iter().enumerate() {
             self.clear_local(i, *variable, number);
@@ -46,7 +43,7 @@ impl<H: Holding + Drop> Store<H> {
     // A procedure begins whose parameters are set: its locals become 0, and the answer is its body.
     pub(crate) fn enter(&mut self, tables: &Tables, number: u16) -> u16
         ensures answer { result ≡ (procedure_at (view tables.now) number).body }
-        ensures kept { kept_of H.stands H.counts self.new ≡ cleared number 0 (view tables.now).variables (kept_of H.stands H.counts self.old) }
+        ensures kept { self.new ≡ cleared number 0 (view tables.now).variables self.old }
     {
         self.clear(&tables.variables, number);
         procedure(tables, number).body
@@ -56,7 +53,7 @@ impl<H: Holding + Drop> Store<H> {
     pub(crate) fn call(&mut self, tables: &Tables, n: u16, number: u16, first: Option<u16>) -> Move
         requires body { nat_lt (procedure_at (view tables.now) number).body n ≡ true }
         requires first { next_below n first ≡ true }
-        ensures moves { move_of H.stands result (kept_of H.stands H.counts self.new) ≡ argued (view tables.now) n number [] first (kept_of H.stands H.counts self.old) }
+        ensures moves { move_of H.stands result self.new ≡ argued (view tables.now) n number [] first self.old }
         ensures below { move_below (view tables.now) n result ≡ true }
     {
         match first {

@@ -1,9 +1,9 @@
 // What stands above a node that runs, and what is done next.
+use crate::sheet::Draft;
 use crate::wants::Want;
 use holding::shares::Shares;
-use semantics::lines::{LineKind, Outcome};
+use semantics::lines::Outcome;
 use semantics::values::{Signal, Value};
-use words::types::DataType;
 
 // What stands above a node, each with its own number.
 #[derive(Clone, Copy)]
@@ -33,18 +33,12 @@ pub enum Move {
     Begin(u16),
     Under(Frame, u16),
     Over(Signal<Shares>),
-    Write {
-        kind: LineKind,
-        node: u16,
-        data_type: DataType,
-        word: u32,
-        signal: Signal<Shares>,
-    },
+    Write(Draft, Signal<Shares>),
     Stop(Outcome),
 }
 
 // How a run stands: a node is about to begin, or it has ended.
-#[derive(Clone, Copy)]
+#[derive(Clone, Copy, PartialEq, Eq, Debug)]
 pub enum Next {
     Begin(u16),
     Ended(Outcome),

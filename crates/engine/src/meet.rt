@@ -4,7 +4,7 @@ ghost use Rattle.semantics.specs.Machine.{meets};
 ghost use Rattle.semantics.specs.declared.values.Value.{Value};
 ghost use Rattle.tables.specs.View.{view};
 ghost use Rattle.engine.specs.Shape.{number, is_argument, is_calling, frame_below, depth_fits, signal_fits, move_fits};
-ghost use Rattle.engine.specs.View.{signal_of, frame_of, kept_of, move_of};
+ghost use Rattle.engine.specs.View.{signal_of, frame_of, move_of};
 
 use crate::begin::wait;
 use crate::frames::{Frame, Move};
@@ -21,29 +21,19 @@ impl<H: Holding + Drop> Store<H> {
     pub(crate) fn meet(&mut self, tables: &Tables, frame: Frame, signal: Signal<Shares>) -> Move
         requires below { frame_below (view tables.now) frame ≡ true }
         requires apart { (is_argument signal && is_calling frame) ≡ false }
-        ensures moves { (xs : List (Value ℕ)) → move_of H.stands result (kept_of H.stands H.counts self.new) ≡ meets (view tables.now) (frame_of H.stands xs frame) (signal_of H.stands signal) (kept_of H.stands H.counts self.old) }
+        ensures moves { (xs : List (Value ℕ)) → move_of H.stands result self.new ≡ meets (view tables.now) (frame_of H.stands xs frame) (signal_of H.stands signal) self.old }
         ensures fits { (depth : ℕ) → depth_fits (view tables.now) (number frame) depth ≡ true → signal_fits (view tables.now) (suc depth) signal ≡ true → move_fits (view tables.now) depth result ≡ true }
     {
-        match frame {
-            Frame::Wait(n, want) => match signal {
-                Signal::Gives(figure) => self.resume(tables, n, want, figure),
-                _ => Move::Over(signal),
-            },
-            Frame::Then(_, second) => match signal {
-                Signal::Falls => Move::Begin(second),
-                _ => Move::Over(signal),
-            },
-            Frame::Loop(n, guard, body) => match signal {
-                Signal::Falls | Signal::Continues => wait(n, Want::Guard(guard, body), guard),
-                Signal::Breaks => Move::Over(Signal::Falls),
-                _ => Move::Over(signal),
-            },
-            Frame::Calling(_, _) => Move::Over(signal),
-            Frame::Running(_) => match signal {
-                Signal::Returns(Some(figure)) => Move::Over(Signal::Gives(figure)),
-                Signal::Returns(None) => Move::Over(Signal::Falls),
-                _ => Move::Over(signal),
-            },
+        match (frame, signal) {
+            (Frame::Wait(n, want), Signal::Gives(figure)) => self.resume(tables, n, want, figure),
+            (Frame::Then(_, second), Signal::Falls) => Move::Begin(second),
+            (Frame::Loop(n, guard, body), Signal::Falls | Signal::Continues) => {
+                wait(n, Want::Guard(guard, body), guard)
+            }
+            (Frame::Loop(_, _, _), Signal::Breaks) => Move::Over(Signal::Falls),
+            (Frame::Running(_), Signal::Returns(Some(figure))) => Move::Over(Signal::Gives(figure)),
+            (Frame::Running(_), Signal::Returns(None)) => Move::Over(Signal::Falls),
+            _ => Move::Over(signal),
         }
     }
 }

@@ -7,8 +7,7 @@ ghost use Rattle.semantics.specs.Fitting.{LevelsKept};
 ghost use Rattle.semantics.specs.Laws.{OperatorLaws};
 ghost use Rattle.semantics.specs.Opening.{zeroed, unset, main, opened};
 ghost use Rattle.engine.specs.Opening.{Ready, CellsFit};
-ghost use Rattle.engine.specs.Running.{program, kept, standing};
-ghost use Rattle.engine.specs.View.{kept_of};
+ghost use Rattle.engine.specs.Running.{program, standing};
 
 use crate::cells::Cells;
 use crate::control::Control;
@@ -46,7 +45,7 @@ pub(crate) fn check<L: Levels>(
 impl<H: Holding + Drop> Store<H> {
     // Every cell is 0: those of the variables are set so in order, and put in where their level is not public.
     fn all_zero(holding: H, variables: &[Variable]) -> Store<H>
-        ensures { kept_of H.stands H.counts result ≡ zeroed 0 variables.now (unset (H.counts holding)) }
+        ensures { result ≡ zeroed 0 variables.now (unset (H.counts holding)) }
     {
         let mut store = Store {
             holding,
@@ -72,14 +71,12 @@ pub(crate) fn main_of(tables: &Tables) -> u16
 pub(crate) fn make<H: Holding + Drop>(workspace: Workspace, holding: H) -> Machine<H>
     requires { Ready (view workspace.tables) }
     ensures program { program result ≡ view workspace.tables }
-    ensures stands { standing H.stands H.counts result ≡ opened (view workspace.tables) (H.counts holding) }
-    ensures fits { CellsFit (view workspace.tables) (kept H.stands H.counts result) }
+    ensures stands { standing H.stands result ≡ opened (view workspace.tables) (H.counts holding) }
+    ensures fits { CellsFit (view workspace.tables) result.store }
 {
     let tables = workspace.tables;
     let mut stack = workspace.stack;
-    let mut lines = workspace.lines;
     stack.clear();
-    lines.clear();
     let body = procedure(&tables, main_of(&tables)).body;
     let store = Store::all_zero(holding, &tables.variables);
     Machine {
@@ -89,6 +86,6 @@ pub(crate) fn make<H: Holding + Drop>(workspace: Workspace, holding: H) -> Machi
             next: Next::Begin(body),
         },
         store,
-        sheet: Sheet { lines, spent: 0 },
+        sheet: Sheet::new(workspace.lines),
     }
 }

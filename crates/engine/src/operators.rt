@@ -1,16 +1,25 @@
 // The operators on figures: on plain words at level 0, and the holding's elsewhere.
 ghost use Rattle.std.specs.Prelude.{◌≡◌};
-ghost use Rattle.words.specs.Operators.{minus_word, not_word};
 ghost use Rattle.semantics.specs.State.{plain_word, word_in, result as result_at, working, operated, putting, plain_result, held_result};
 ghost use Rattle.semantics.specs.declared.values.Value.TheVariants.{Held};
-ghost use Rattle.engine.specs.View.{value_of, kept_of};
+ghost use Rattle.engine.specs.View.{value_of, unary_word};
 
 use crate::figures::plain_word;
 use crate::store::Store;
+use crate::wants::Unary;
 use holding::interface::Holding;
 use holding::shares::Shares;
 use semantics::values::{Operator, Value};
 use words::operators;
+
+fn apply_word(operator: Unary, word: u32) -> u32
+    ensures { result ≡ unary_word operator word }
+{
+    match operator {
+        Unary::Minus => operators::minus(word),
+        Unary::Not => operators::not(word),
+    }
+}
 
 // The word of an operator on plain words, or none for a quotient or a remainder by zero.
 pub(crate) fn combine_words(operator: Operator, a: u32, b: u32) -> Option<u32>
@@ -25,28 +34,32 @@ pub(crate) fn combine_words(operator: Operator, a: u32, b: u32) -> Option<u32>
 }
 
 impl<H: Holding + Drop> Store<H> {
-    pub(crate) fn minus(&mut self, level: u32, figure: Value<Shares>) -> Value<Shares>
-        ensures value { value_of H.stands result ≡ result_at level (minus_word (plain_word (value_of H.stands figure))) (minus_word (word_in (value_of H.stands figure))) }
-        ensures kept { kept_of H.stands H.counts self.new ≡ working level (value_of H.stands figure) (kept_of H.stands H.counts self.old) }
+    // The holding's operator on one figure that it holds.
+    fn apply_held(&mut self, operator: Unary, x: Shares) -> Shares
+        ensures stands { H.stands result ≡ unary_word operator (H.stands x) }
+        ensures kept { self.new ≡ operated self.old }
     {
-        match level {
-            0 => Value::Plain(operators::minus(plain_word(figure))),
-            _ => {
-                let shares = self.hold(figure);
-                Value::Held(self.holding.minus(shares))
-            }
+        match operator {
+            Unary::Minus => self.holding.minus(x),
+            Unary::Not => self.holding.not(x),
         }
     }
 
-    pub(crate) fn not(&mut self, level: u32, figure: Value<Shares>) -> Value<Shares>
-        ensures value { value_of H.stands result ≡ result_at level (not_word (plain_word (value_of H.stands figure))) (not_word (word_in (value_of H.stands figure))) }
-        ensures kept { kept_of H.stands H.counts self.new ≡ working level (value_of H.stands figure) (kept_of H.stands H.counts self.old) }
+    // An operator of a level on one figure: on its word at level 0, and the holding's elsewhere.
+    pub(crate) fn apply(
+        &mut self,
+        operator: Unary,
+        level: u32,
+        figure: Value<Shares>,
+    ) -> Value<Shares>
+        ensures value { value_of H.stands result ≡ result_at level (unary_word operator (plain_word (value_of H.stands figure))) (unary_word operator (word_in (value_of H.stands figure))) }
+        ensures kept { self.new ≡ working level (value_of H.stands figure) self.old }
     {
         match level {
-            0 => Value::Plain(operators::not(plain_word(figure))),
+            0 => Value::Plain(apply_word(operator, plain_word(figure))),
             _ => {
                 let shares = self.hold(figure);
-                Value::Held(self.holding.not(shares))
+                Value::Held(self.apply_held(operator, shares))
             }
         }
     }
@@ -54,7 +67,7 @@ impl<H: Holding + Drop> Store<H> {
     // The holding's operator on two figures that it holds.
     fn combine_held(&mut self, operator: Operator, x: Shares, y: Shares) -> Shares
         ensures stands { H.stands result ≡ held_result operator (H.stands x) (H.stands y) }
-        ensures kept { kept_of H.stands H.counts self.new ≡ operated (kept_of H.stands H.counts self.old) }
+        ensures kept { self.new ≡ operated self.old }
     {
         match operator {
             Operator::Arithmetic(operator, data_type) => self
@@ -76,7 +89,7 @@ impl<H: Holding + Drop> Store<H> {
         y: Value<Shares>,
     ) -> Value<Shares>
         ensures value { value_of H.stands result ≡ Held (held_result operator (word_in (value_of H.stands x)) (word_in (value_of H.stands y))) }
-        ensures kept { kept_of H.stands H.counts self.new ≡ operated (putting (value_of H.stands y) (putting (value_of H.stands x) (kept_of H.stands H.counts self.old))) }
+        ensures kept { self.new ≡ operated (putting (value_of H.stands y) (putting (value_of H.stands x) self.old)) }
     {
         let first = self.hold(x);
         let second = self.hold(y);

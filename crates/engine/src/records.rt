@@ -26,29 +26,20 @@ const NO_PROCEDURE: Procedure = Procedure {
 pub(crate) fn typed_node(tables: &Tables, number: u16) -> TypedNode
     ensures { result ≡ slice_index_or (view tables.now).nodes number no_typed_node }
 {
-    match tables.node(number) {
-        Some(node) => node,
-        None => NO_NODE,
-    }
+    tables.node(number).unwrap_or(NO_NODE)
 }
 
 pub(crate) fn procedure(tables: &Tables, number: u16) -> Procedure
     ensures { result ≡ procedure_at (view tables.now) number }
 {
-    match tables.procedure(number) {
-        Some(procedure) => procedure,
-        None => NO_PROCEDURE,
-    }
+    tables.procedure(number).unwrap_or(NO_PROCEDURE)
 }
 
 // The data type of a figure that is shown or worked on.
 pub(crate) fn figure_type(tables: &Tables, node: u16) -> DataType
     ensures { result ≡ figure_type (view tables.now) node }
 {
-    match tables.data_type(node) {
-        Some(data_type) => data_type,
-        None => DataType::Bool,
-    }
+    tables.data_type(node).unwrap_or(DataType::Bool)
 }
 
 // The level of the result of the procedure that a node belongs to.

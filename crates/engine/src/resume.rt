@@ -7,7 +7,7 @@ ghost use Rattle.semantics.specs.declared.values.Signal.TheVariants.{Gives, Fall
 ghost use Rattle.semantics.specs.declared.values.Value.TheVariants.{Plain};
 ghost use Rattle.tables.specs.View.{view};
 ghost use Rattle.engine.specs.Shape.{want_below, move_below};
-ghost use Rattle.engine.specs.View.{value_of, want_of, kept_of, move_of};
+ghost use Rattle.engine.specs.View.{value_of, want_of, move_of};
 ghost use Rattle.engine.specs.declared.frames.Frame.TheVariants.{Loop};
 ghost use Rattle.engine.specs.declared.frames.Move.TheVariants.{Begin, Under, Over, Write};
 
@@ -16,6 +16,7 @@ use crate::figures::{decides, holds, plain_word};
 use crate::frames::{Frame, Move};
 use crate::operators::combine_words;
 use crate::records::result_level;
+use crate::sheet::Draft;
 use crate::store::Store;
 use crate::wants::Want;
 use holding::interface::Holding;
@@ -58,28 +59,28 @@ fn branch(node: u16, holds: bool) -> Move
     }
 }
 
-fn output(n: u16, data_type: DataType, word: u32) -> Move
-    ensures { result ≡ Write OutputLine n data_type word Falls }
+fn output(node: u16, data_type: DataType, word: u32) -> Move
+    ensures { result ≡ Write (record { kind = OutputLine; node = node; data_type = data_type; word = word }) Falls }
 {
-    Move::Write {
+    let draft = Draft {
         kind: LineKind::Output,
-        node: n,
+        node,
         data_type,
         word,
-        signal: Signal::Falls,
-    }
+    };
+    Move::Write(draft, Signal::Falls)
 }
 
-fn release(n: u16, data_type: DataType, word: u32) -> Move
-    ensures { result ≡ Write ReleaseLine n data_type word (Gives (Plain word)) }
+fn release(node: u16, data_type: DataType, word: u32) -> Move
+    ensures { result ≡ Write (record { kind = ReleaseLine; node = node; data_type = data_type; word = word }) (Gives (Plain word)) }
 {
-    Move::Write {
+    let draft = Draft {
         kind: LineKind::Release,
-        node: n,
+        node,
         data_type,
         word,
-        signal: Signal::Gives(Value::Plain(word)),
-    }
+    };
+    Move::Write(draft, Signal::Gives(Value::Plain(word)))
 }
 
 impl<H: Holding + Drop> Store<H> {
@@ -94,7 +95,7 @@ impl<H: Holding + Drop> Store<H> {
         figure: Value<Shares>,
     ) -> Move
         requires { nat_lt second n ≡ true }
-        ensures moves { move_of H.stands result (kept_of H.stands H.counts self.new) ≡ got (view tables.now) n (first operator second) (value_of H.stands figure) (kept_of H.stands H.counts self.old) }
+        ensures moves { move_of H.stands result self.new ≡ got (view tables.now) n (first operator second) (value_of H.stands figure) self.old }
         ensures below { move_below (view tables.now) n result ≡ true }
     {
         if decides(operator, figure) {
@@ -113,7 +114,7 @@ impl<H: Holding + Drop> Store<H> {
         x: Value<Shares>,
         y: Value<Shares>,
     ) -> Move
-        ensures moves { move_of H.stands result (kept_of H.stands H.counts self.new) ≡ got_both (view tables.now) n operator (value_of H.stands x) (value_of H.stands y) (kept_of H.stands H.counts self.old) }
+        ensures moves { move_of H.stands result self.new ≡ got_both (view tables.now) n operator (value_of H.stands x) (value_of H.stands y) self.old }
         ensures below { move_below (view tables.now) n result ≡ true }
     {
         match tables.level(n) {
@@ -137,7 +138,7 @@ impl<H: Holding + Drop> Store<H> {
 
     fn assign(&mut self, tables: &Tables, variable: u16, figure: Value<Shares>) -> Value<Shares>
         ensures value { value_of H.stands result ≡ settled (level_at (view tables.now) variable) (value_of H.stands figure) }
-        ensures kept { kept_of H.stands H.counts self.new ≡ stored variable (level_at (view tables.now) variable) (value_of H.stands figure) (kept_of H.stands H.counts self.old) }
+        ensures kept { self.new ≡ stored variable (level_at (view tables.now) variable) (value_of H.stands figure) self.old }
     {
         let variable = variable as usize;
         self.set(variable, tables.variable_level(variable), figure)
@@ -153,12 +154,11 @@ impl<H: Holding + Drop> Store<H> {
         figure: Value<Shares>,
     ) -> Move
         requires { want_below n want ≡ true }
-        ensures moves { move_of H.stands result (kept_of H.stands H.counts self.new) ≡ got (view tables.now) n (want_of H.stands want) (value_of H.stands figure) (kept_of H.stands H.counts self.old) }
+        ensures moves { move_of H.stands result self.new ≡ got (view tables.now) n (want_of H.stands want) (value_of H.stands figure) self.old }
         ensures below { move_below (view tables.now) n result ≡ true }
     {
         match want {
-            Want::Negate => give(self.minus(tables.level(n), figure)),
-            Want::Invert => give(self.not(tables.level(n), figure)),
+            Want::Only(operator) => give(self.apply(operator, tables.level(n), figure)),
             Want::First(operator, second) => self.resume_first(tables, n, operator, second, figure),
             Want::Second(operator, first) => self.resume_second(tables, n, operator, first, figure),
             Want::Choose(chosen, otherwise) => wait(

@@ -6,6 +6,7 @@ use holding::interface::Holding;
 use holding::open::OpenHolding;
 use holding::shares::Counts;
 use holding::split::SplitHolding;
+use semantics::lines::{LineKind, Outcome};
 use semantics::values::Value;
 use std::alloc::{AllocError, Global};
 use std::process::Abort;
@@ -28,7 +29,7 @@ fn try_program<H: Holding + Drop>(
 ) -> Result<(), Fail> {
     let mut machine = open(heap, program, holding)?;
     run(rt, &mut machine, 2000);
-    check_stands(rt, &machine, "finished", spent, counts);
+    check_stands(rt, &machine, Outcome::Finished, spent, counts);
     check_lines(rt, &machine, lines);
     Ok(())
 }
@@ -79,9 +80,10 @@ fn calls(rt: HostRuntime) -> Result<(), Fail> {
 #[test]
 fn zero_divisor(rt: HostRuntime) -> Result<(), Fail> {
     let mut machine = open(rt.alloc(), ZERO_DIVISOR, OpenHolding::new())?;
+    let counts = Counts { puts: 1, ops: 0 };
     for _ in 0..2 {
         run(&rt, &mut machine, 1000);
-        check_stands(&rt, &machine, "zero divisor", 9, Counts { puts: 1, ops: 0 });
+        check_stands(&rt, &machine, Outcome::ZeroDivisor, 9, counts);
         check_lines(&rt, &machine, &ZERO_DIVISOR_LINES);
     }
     Ok(())
@@ -111,8 +113,8 @@ fn deepest(rt: HostRuntime) -> Result<(), Fail> {
         procedures: &[(VOID, 0, 0, 1023, 0)],
     };
     let lines = [
-        (RELEASE, 1021, 1024, DataType::Int, MINUS_7),
-        (OUTPUT, 1023, 1024, DataType::Int, MINUS_7),
+        (LineKind::Release, 1021, 1024, DataType::Int, MINUS_7),
+        (LineKind::Output, 1023, 1024, DataType::Int, MINUS_7),
     ];
     let counts = Counts { puts: 2, ops: 1019 };
     try_both(&rt, rt.alloc(), program, &lines, 1024, counts)
@@ -122,7 +124,7 @@ fn deepest(rt: HostRuntime) -> Result<(), Fail> {
 fn counting_lines(heap: Global) -> Result<Vec<LineRow>, AllocError> {
     let mut lines = Vec::new(heap);
     for i in 1..257u32 {
-        lines.push((OUTPUT, 9, 1 + 12 * i, DataType::Int, i))?;
+        lines.push((LineKind::Output, 9, 1 + 12 * i, DataType::Int, i))?;
     }
     Ok(lines)
 }
@@ -139,11 +141,11 @@ fn last_line(rt: HostRuntime) -> Result<(), Fail> {
         puts: 258,
         ops: 257,
     };
-    check_stands(&rt, &machine, "more to do", 3084, counts);
+    check_stands(&rt, &machine, Outcome::More, 3084, counts);
     for steps in [1, 1000] {
         run(&rt, &mut machine, steps);
         check_lines(&rt, &machine, &lines);
-        check_stands(&rt, &machine, "lines full", 3085, counts);
+        check_stands(&rt, &machine, Outcome::LinesFull, 3085, counts);
     }
     let Value::Held(sum) = machine.store.read(1) else {
         return Err(Fail::new("a plain sum"));

@@ -2,10 +2,17 @@
 use semantics::values::{Operator, Value};
 use words::types::DataType;
 
+// An operator on one figure.
+#[derive(Clone, Copy)]
+pub enum Unary {
+    Minus,
+    Not,
+}
+
 #[derive(Clone, Copy)]
 pub enum Want<S> {
-    Negate,
-    Invert,
+    // the only operand
+    Only(Unary),
     // the first operand: run the second, unless the first decides
     First(Operator, u16),
     Second(Operator, Value<S>),

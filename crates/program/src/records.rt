@@ -94,7 +94,7 @@ pub enum Node {
 }
 
 // Where a variable belongs; locals and parameters to the procedure of a number.
-#[derive(Clone, Copy)]
+#[derive(Clone, Copy, PartialEq, Eq, Debug)]
 pub enum Role {
     Global,
     Input,

@@ -1,14 +1,14 @@
 // The public lines of a run, and how a run stands.
 use words::types::DataType;
 
-#[derive(Clone, Copy)]
+#[derive(Clone, Copy, PartialEq, Eq, Debug)]
 pub enum LineKind {
     Release,
     Output,
 }
 
 // A line: which node wrote it and how, the steps spent until then, and the word with its data type.
-#[derive(Clone, Copy)]
+#[derive(Clone, Copy, PartialEq, Eq, Debug)]
 pub struct Line {
     pub kind: LineKind,
     pub node: u16,
@@ -18,7 +18,7 @@ pub struct Line {
 }
 
 // How a run stands: there is more to do, it is finished, or it ended at a zero divisor or at its last line.
-#[derive(Clone, Copy)]
+#[derive(Clone, Copy, PartialEq, Eq, Debug)]
 pub enum Outcome {
     More,
     Finished,

@@ -1,5 +1,5 @@
 // What touches a cell: it is read, or lent to be altered.
-ghost use Rattle.std.specs.Prelude.{◌≡◌, ◌<◌, replicate, slice_index_or, slice_set};
+ghost use Rattle.std.specs.Prelude.{◌≡◌, ◌<◌, replicate, slice_get, slice_index_or, slice_set};
 ghost use Rattle.std.proofs.Common.{◌∙◌, length-set};
 ghost use Rattle.std.specs.Borrow.{sem, follows};
 ghost use Rattle.engine.specs.contracts.cells.Cells.{the_row as the_cells};
@@ -28,10 +28,9 @@ impl<S: Copy> Cells<S> {
         }
     }
 
-    pub(crate) fn read(&self, i: usize) -> Value<S>
-        requires { i < 128 }
-        ensures { result ≡ slice_index_or self.now.cells i result }
+    pub(crate) fn read(&self, i: usize) -> Option<Value<S>>
+        ensures { result ≡ slice_get self.now.cells i }
     {
-        self.cells[i]
+        self.cells.get(i).copied()
     }
 }

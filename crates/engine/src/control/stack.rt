@@ -12,10 +12,10 @@ use semantics::lines::Outcome;
 fn is_of_call(top: Option<Entry>) -> bool
     ensures { result ≡ is_of_call top }
 {
-    match top {
-        Some(Entry::Passed(_)) | Some(Entry::Frame(Frame::Calling(_, _))) => true,
-        _ => false,
-    }
+    matches!(
+        top,
+        Some(Entry::Passed(_) | Entry::Frame(Frame::Calling(_, _)))
+    )
 }
 
 impl Control {
@@ -57,10 +57,7 @@ impl Control {
     fn top(&self) -> Option<Entry>
         ensures { result ≡ top_of (entries self.now) }
     {
-        match self.stack.len() {
-            0 => None,
-            count => Some(self.stack[count - 1]),
-        }
+        self.stack.last().copied()
     }
 
     // Whether the top belongs to a call whose arguments run.

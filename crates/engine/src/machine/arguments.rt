@@ -6,7 +6,7 @@ ghost use Rattle.engine.specs.Shape.{in_call, argument_fits};
 ghost use Rattle.engine.specs.Standing.{entries};
 ghost use Rattle.engine.specs.View.{value_of};
 ghost use Rattle.engine.specs.Passing.{call_of, under_call, passed};
-ghost use Rattle.engine.specs.Running.{program, kept, standing, handing};
+ghost use Rattle.engine.specs.Running.{program, standing, handing};
 ghost use Rattle.engine.specs.declared.frames.Frame.TheVariants.{Calling};
 
 use super::Machine;
@@ -28,7 +28,7 @@ impl<H: Holding + Drop> Machine<H> {
     fn set_parameter(&mut self, parameter: usize, figure: Value<Shares>)
         ensures control { self.new.control ≡ self.old.control }
         ensures sheet { self.new.sheet ≡ self.old.sheet }
-        ensures kept { kept H.stands H.counts self.new ≡ stored parameter (level_at (program self.old) parameter) (value_of H.stands figure) (kept H.stands H.counts self.old) }
+        ensures kept { self.new.store ≡ stored parameter (level_at (program self.old) parameter) (value_of H.stands figure) self.old.store }
     {
         let level = self.control.tables.variable_level(parameter);
         self.store.set(parameter, level, figure);
@@ -43,26 +43,25 @@ impl<H: Holding + Drop> Machine<H> {
         ensures call { call_of (entries self.old.control) ≡ Calling result.node result.procedure }
         ensures parameter { result.parameter ≡ (procedure_at (program self.old) result.procedure).first_parameter + length (passed H.stands (entries self.old.control)) }
         ensures small { result.parameter ≤ 65535 + length (entries self.old.control) }
-        ensures kept { kept H.stands H.counts self.new ≡ bound (program self.old) (procedure_at (program self.old) result.procedure).first_parameter (passed H.stands (entries self.old.control)) (kept H.stands H.counts self.old) }
+        ensures kept { self.new.store ≡ bound (program self.old) (procedure_at (program self.old) result.procedure).first_parameter (passed H.stands (entries self.old.control)) self.old.store }
     {
         match self.control.pop() {
-            Some(entry) => match entry {
-                Entry::Passed(figure) => {
-                    let call = self.bind();
-                    self.set_parameter(call.parameter, figure);
-                    Call {
-                        parameter: call.parameter + 1,
-                        ..call
-                    }
+            Some(Entry::Passed(figure)) => {
+                let call = self.bind();
+                self.set_parameter(call.parameter, figure);
+                Call {
+                    parameter: call.parameter + 1,
+                    ..call
                 }
-                Entry::Frame(frame) => match frame {
-                    Frame::Calling(node, number) => Call {
-                        node,
-                        procedure: number,
-                        parameter: procedure(&self.control.tables, number).first_parameter as usize,
-                    },
-                    _ => unreachable(),
+            }
+            // a match of its own: a last arm of the outer one would not know that the frame is no call's
+            Some(Entry::Frame(frame)) => match frame {
+                Frame::Calling(node, number) => Call {
+                    node,
+                    procedure: number,
+                    parameter: procedure(&self.control.tables, number).first_parameter as usize,
                 },
+                _ => unreachable(),
             },
             None => unreachable(),
         }
@@ -72,7 +71,7 @@ impl<H: Holding + Drop> Machine<H> {
     fn enter(&mut self, figure: Value<Shares>)
         requires { in_call (entries self.old.control) ≡ true }
         ensures tables { self.new.control.tables ≡ self.old.control.tables }
-        ensures stands { standing H.stands H.counts self.new ≡ handing H.stands H.counts (Some (Argues figure None)) self.old }
+        ensures stands { standing H.stands self.new ≡ handing H.stands (Some (Argues figure None)) self.old }
     {
         let call = self.bind();
         self.set_parameter(call.parameter, figure);
@@ -86,7 +85,7 @@ impl<H: Holding + Drop> Machine<H> {
         requires call { in_call (entries self.old.control) ≡ true }
         requires fits { argument_fits (program self.old) (length (entries self.old.control)) next ≡ true }
         ensures tables { self.new.control.tables ≡ self.old.control.tables }
-        ensures stands { standing H.stands H.counts self.new ≡ handing H.stands H.counts (Some (Argues figure next)) self.old }
+        ensures stands { standing H.stands self.new ≡ handing H.stands (Some (Argues figure next)) self.old }
     {
         match next {
             Some(argument) => self.control.push(Entry::Passed(figure), argument),

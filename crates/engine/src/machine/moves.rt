@@ -4,10 +4,11 @@ ghost use Rattle.semantics.specs.Machine as model;
 ghost use Rattle.engine.specs.Shape.{is_argument, in_call, signal_fits, move_fits};
 ghost use Rattle.engine.specs.Standing.{entries};
 ghost use Rattle.engine.specs.View.{move_of};
-ghost use Rattle.engine.specs.Running.{program, frames, shown, kept, standing, handing, handed_fits, HandedSame, HandedLess};
+ghost use Rattle.engine.specs.Running.{program, frames, standing, handing, handed_fits, HandedSame, HandedLess};
 
 use super::Machine;
 use crate::frames::{Entry, Move};
+use crate::sheet::LinesFull;
 use holding::interface::Holding;
 use holding::shares::Shares;
 use semantics::lines::Outcome;
@@ -18,7 +19,7 @@ impl<H: Holding + Drop> Machine<H> {
     pub(crate) fn drive(&mut self, step: Move) -> Option<Signal<Shares>>
         requires { move_fits (program self.old) (length (entries self.old.control)) step ≡ true }
         ensures tables { self.new.control.tables ≡ self.old.control.tables }
-        ensures stands { handing H.stands H.counts result self.new ≡ (let m = self.old in model.drive (program m) (frames H.stands H.counts m) (model.pass (program m) (frames H.stands H.counts m)) (shown H.stands H.counts m) (move_of H.stands step (kept H.stands H.counts m))) }
+        ensures stands { handing H.stands result self.new ≡ (let m = self.old in model.drive (program m) (frames H.stands m) (model.pass (program m) (frames H.stands m)) m.sheet (move_of H.stands step m.store)) }
         ensures entries { HandedSame result (entries self.old.control) (entries self.new.control) }
         ensures fits { handed_fits (program self.new) (length (entries self.new.control)) result ≡ true }
     {
@@ -32,20 +33,13 @@ impl<H: Holding + Drop> Machine<H> {
                 None
             }
             Move::Over(signal) => Some(signal),
-            Move::Write {
-                kind,
-                node,
-                data_type,
-                word,
-                signal,
-            } => {
-                if self.sheet.write(kind, node, data_type, word) {
-                    Some(signal)
-                } else {
+            Move::Write(draft, signal) => match self.sheet.write(draft) {
+                Ok(()) => Some(signal),
+                Err(LinesFull) => {
                     self.control.end(Outcome::LinesFull);
                     None
                 }
-            }
+            },
             Move::Stop(outcome) => {
                 self.control.end(outcome);
                 None
@@ -58,7 +52,7 @@ impl<H: Holding + Drop> Machine<H> {
         requires fits { signal_fits (program self.old) (length (entries self.old.control)) signal ≡ true }
         requires apart { (is_argument signal && in_call (entries self.old.control)) ≡ false }
         ensures tables { self.new.control.tables ≡ self.old.control.tables }
-        ensures stands { handing H.stands H.counts result self.new ≡ handing H.stands H.counts (Some signal) self.old }
+        ensures stands { handing H.stands result self.new ≡ handing H.stands (Some signal) self.old }
         ensures entries { HandedLess result (entries self.old.control) (entries self.new.control) }
         ensures fits { handed_fits (program self.new) (length (entries self.new.control)) result ≡ true }
     {
@@ -67,28 +61,23 @@ impl<H: Holding + Drop> Machine<H> {
                 self.control.end(Outcome::Finished);
                 None
             }
-            Some(entry) => match entry {
-                Entry::Passed(_) => Some(signal),
-                Entry::Frame(frame) => {
-                    let step = self.store.meet(&self.control.tables, frame, signal);
-                    self.drive(step)
-                }
-            },
+            Some(Entry::Passed(_)) => Some(signal),
+            Some(Entry::Frame(frame)) => {
+                let step = self.store.meet(&self.control.tables, frame, signal);
+                self.drive(step)
+            }
         }
     }
 
     fn meet(&mut self, signal: Signal<Shares>) -> Option<Signal<Shares>>
         requires { signal_fits (program self.old) (length (entries self.old.control)) signal ≡ true }
         ensures tables { self.new.control.tables ≡ self.old.control.tables }
-        ensures stands { handing H.stands H.counts result self.new ≡ handing H.stands H.counts (Some signal) self.old }
+        ensures stands { handing H.stands result self.new ≡ handing H.stands (Some signal) self.old }
         ensures entries { HandedLess result (entries self.old.control) (entries self.new.control) }
         ensures fits { handed_fits (program self.new) (length (entries self.new.control)) result ≡ true }
     {
         match signal {
-            Signal::Argues(figure, next) => {
-                if !self.control.in_call() {
-                    return self.meet_top(signal);
-                }
+            Signal::Argues(figure, next) if self.control.in_call() => {
                 self.pass_figure(figure, next);
                 None
             }
@@ -100,7 +89,7 @@ impl<H: Holding + Drop> Machine<H> {
     pub(crate) fn pass(&mut self, handed: Option<Signal<Shares>>)
         requires { handed_fits (program self.old) (length (entries self.old.control)) handed ≡ true }
         ensures tables { self.new.control.tables ≡ self.old.control.tables }
-        ensures stands { standing H.stands H.counts self.new ≡ handing H.stands H.counts handed self.old }
+        ensures stands { standing H.stands self.new ≡ handing H.stands handed self.old }
     {
         let mut handed = handed;
         while let Some(signal) = handed {

@@ -15,7 +15,7 @@ impl<H: Holding + Drop> Machine<H> {
         requires begins { self.old.control.next ≡ Begin node }
         requires fits { self.old.sheet.spent + 1 < 2 ^ 32 }
         ensures tables { self.new.control.tables ≡ self.old.control.tables }
-        ensures stands { standing H.stands H.counts self.new ≡ model.turn (program self.old) (standing H.stands H.counts self.old) }
+        ensures stands { standing H.stands self.new ≡ model.turn (program self.old) (standing H.stands self.old) }
         ensures spent { self.new.sheet.spent ≡ self.old.sheet.spent + 1 }
     {
         self.sheet.tick();
@@ -29,7 +29,7 @@ impl<H: Holding + Drop> Machine<H> {
     pub(crate) fn run(&mut self, steps: u32)
         requires { self.old.sheet.spent + steps < 2 ^ 32 }
         ensures tables { self.new.control.tables ≡ self.old.control.tables }
-        ensures stands { standing H.stands H.counts self.new ≡ model.run (program self.old) steps (standing H.stands H.counts self.old) }
+        ensures stands { standing H.stands self.new ≡ model.run (program self.old) steps (standing H.stands self.old) }
         ensures spent { self.new.sheet.spent ≤ self.old.sheet.spent + steps }
         ensures follows { MachineFollows (program self.old) }
         ensures adds { TurnsAdd (program self.old) }

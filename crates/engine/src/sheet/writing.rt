@@ -1,34 +1,53 @@
 // Spending a step, and writing a line.
-ghost use Rattle.std.specs.Prelude.{◌≡◌, ◌+◌, ◌^◌, ◌<◌, not, if◌then◌else◌};
+ghost use Rattle.std.specs.Prelude.{◌≡◌, ◌+◌, ◌^◌, ◌<◌, ◌≤◌, not, [], is_ok, if◌then◌else◌, vec_capacity};
 ghost use Rattle.semantics.specs.State.{tick as ticked, full, written};
-ghost use Rattle.engine.specs.View.{shown_of};
 
-use super::{LINES, Sheet};
-use semantics::lines::{Line, LineKind};
-use words::types::DataType;
+use super::{Draft, LINES, LinesFull, Sheet};
+use semantics::lines::Line;
 
 impl Sheet {
+    // An empty sheet, in memory that has room for all lines.
+    pub(crate) fn new(mut lines: Vec<Line>) -> Sheet
+        requires { 256 ≤ vec_capacity lines }
+        ensures { result ≡ record { lines = []; spent = 0 } }
+    {
+        lines.clear();
+        Sheet { lines, spent: 0 }
+    }
+
+    pub(crate) fn lines(&self) -> &[Line]
+        ensures { result.now ≡ self.now.lines }
+    {
+        &self.lines
+    }
+
+    pub(crate) fn spent(&self) -> u32
+        ensures { result ≡ self.now.spent }
+    {
+        self.spent
+    }
+
     pub(crate) fn tick(&mut self)
         requires { self.old.spent + 1 < 2 ^ 32 }
-        ensures { shown_of self.new ≡ ticked (shown_of self.old) }
+        ensures { self.new ≡ ticked self.old }
     {
         self.spent += 1;
     }
 
-    // Writes a line and answers that it did, unless 256 stand.
-    pub(crate) fn write(
-        &mut self,
-        kind: LineKind,
-        node: u16,
-        data_type: DataType,
-        word: u32,
-    ) -> bool
-        ensures wrote { result ≡ not (full (shown_of self.old)) }
-        ensures after { shown_of self.new ≡ (if full (shown_of self.old) then shown_of self.old else written kind node data_type word (shown_of self.old)) }
+    // Writes a line, unless 256 stand.
+    pub(crate) fn write(&mut self, draft: Draft) -> Result<(), LinesFull>
+        ensures wrote { is_ok result ≡ not (full self.old) }
+        ensures after { self.new ≡ (if full self.old then self.old else written draft.kind draft.node draft.data_type draft.word self.old) }
     {
         if self.lines.len() >= LINES {
-            return false;
+            return Err(LinesFull);
         }
+        let Draft {
+            kind,
+            node,
+            data_type,
+            word,
+        } = draft;
         self.lines.push_reserved(Line {
             kind,
             node,
@@ -36,6 +55,6 @@ impl Sheet {
             data_type,
             word,
         });
-        true
+        Ok(())
     }
 }

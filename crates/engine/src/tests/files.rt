@@ -1,4 +1,5 @@
-// Programs as rows of numbers, and their files.
+// Programs as rows of numbers, and their files. The numbers are those of the format, written down here again so that the tests
+// do not rest on the code's own encoding.
 use std::alloc::{AllocError, Global};
 use std::test::Fail;
 
@@ -111,8 +112,8 @@ pub struct Program<'a> {
     pub procedures: &'a [ProcedureRow],
 }
 
-fn push_node(file: &mut Vec<u8>, row: NodeRow) -> Result<(), AllocError> {
-    let (kind, sort, a, b, c, word) = row;
+fn push_node(file: &mut Vec<u8>, row: &NodeRow) -> Result<(), AllocError> {
+    let (kind, sort, a, b, c, word) = *row;
     file.extend_from_slice(&[kind, sort])?;
     file.extend_from_slice(&a.to_be_bytes())?;
     file.extend_from_slice(&b.to_be_bytes())?;
@@ -120,15 +121,15 @@ fn push_node(file: &mut Vec<u8>, row: NodeRow) -> Result<(), AllocError> {
     file.extend_from_slice(&word.to_be_bytes())
 }
 
-fn push_variable(file: &mut Vec<u8>, row: VariableRow) -> Result<(), AllocError> {
-    let (role, data_type, owner, level) = row;
+fn push_variable(file: &mut Vec<u8>, row: &VariableRow) -> Result<(), AllocError> {
+    let (role, data_type, owner, level) = *row;
     file.extend_from_slice(&[role, data_type])?;
     file.extend_from_slice(&owner.to_be_bytes())?;
     file.extend_from_slice(&level.to_be_bytes())
 }
 
-fn push_procedure(file: &mut Vec<u8>, row: ProcedureRow) -> Result<(), AllocError> {
-    let (result, parameters, first, body, level) = row;
+fn push_procedure(file: &mut Vec<u8>, row: &ProcedureRow) -> Result<(), AllocError> {
+    let (result, parameters, first, body, level) = *row;
     file.extend_from_slice(&[result, parameters])?;
     file.extend_from_slice(&first.to_be_bytes())?;
     file.extend_from_slice(&body.to_be_bytes())?;
@@ -144,15 +145,15 @@ fn place(file: &Vec<u8>) -> Result<[u8; 4], Fail> {
 pub(crate) fn file_of(heap: Global, program: Program) -> Result<Vec<u8>, Fail> {
     let mut file = Vec::new(heap);
     for row in program.nodes {
-        push_node(&mut file, *row)?;
+        push_node(&mut file, row)?;
     }
     let variables = place(&file)?;
     for row in program.variables {
-        push_variable(&mut file, *row)?;
+        push_variable(&mut file, row)?;
     }
     let procedures = place(&file)?;
     for row in program.procedures {
-        push_procedure(&mut file, *row)?;
+        push_procedure(&mut file, row)?;
     }
     file.extend_from_slice(&variables)?;
     file.extend_from_slice(&procedures)?;

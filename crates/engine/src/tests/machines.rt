@@ -1,5 +1,5 @@
 // Machines made of programs, and what is seen of their runs.
-use super::files::{OUTPUT, Program, RELEASE, file_of};
+use super::files::{Program, file_of};
 use crate::frames::Next;
 use crate::machine::Machine;
 use crate::opening;
@@ -13,8 +13,8 @@ use std::process::Abort;
 use std::test::Fail;
 use words::types::DataType;
 
-// A line: the kind of its node, the node, and its steps, data type and word.
-pub type LineRow = (u8, u16, u32, DataType, u32);
+// A line as a row: its kind, node, steps, data type and word.
+pub type LineRow = (LineKind, u16, u32, DataType, u32);
 
 pub(crate) fn open<H: Holding + Drop>(
     heap: Global,
@@ -30,37 +30,37 @@ pub(crate) fn open<H: Holding + Drop>(
 }
 
 pub(crate) fn run<H: Holding + Drop>(rt: &impl Abort, machine: &mut Machine<H>, steps: u16) {
-    assert!(rt; machine.sheet.spent < 10000);
+    assert!(rt; machine.sheet.spent() < 10000);
     machine.run(u32::from(steps));
 }
 
-fn outcome(next: Next) -> &'static str {
+fn outcome(next: Next) -> Outcome {
     match next {
-        Next::Begin(_) | Next::Ended(Outcome::More) => "more to do",
-        Next::Ended(Outcome::Finished) => "finished",
-        Next::Ended(Outcome::ZeroDivisor) => "zero divisor",
-        Next::Ended(Outcome::LinesFull) => "lines full",
+        Next::Begin(_) => Outcome::More,
+        Next::Ended(outcome) => outcome,
     }
 }
 
-fn row(line: &Line) -> LineRow {
-    let kind = match line.kind {
-        LineKind::Release => RELEASE,
-        LineKind::Output => OUTPUT,
-    };
-    (kind, line.node, line.steps, line.data_type, line.word)
+fn line((kind, node, steps, data_type, word): LineRow) -> Line {
+    Line {
+        kind,
+        node,
+        steps,
+        data_type,
+        word,
+    }
 }
 
 // How a run stands, the steps that it spent, and the words put in and operators done.
 pub(crate) fn check_stands<H: Holding + Drop>(
     rt: &impl Abort,
     machine: &Machine<H>,
-    how: &'static str,
+    how: Outcome,
     spent: u32,
     counts: Counts,
 ) {
     assert_eq!(rt; outcome(machine.control.next), how);
-    assert_eq!(rt; machine.sheet.spent, spent);
+    assert_eq!(rt; machine.sheet.spent(), spent);
     assert_eq!(rt; machine.store.holding.tally(), counts);
 }
 
@@ -69,10 +69,10 @@ pub(crate) fn check_lines<H: Holding + Drop>(
     machine: &Machine<H>,
     rows: &[LineRow],
 ) {
-    for (line, expected) in machine.sheet.lines.iter().zip(rows) {
-        assert_eq!(rt; row(line), *expected);
+    for (written, row) in machine.sheet.lines().iter().zip(rows) {
+        assert_eq!(rt; *written, line(*row));
     }
-    assert_eq!(rt; machine.sheet.lines.len(), rows.len());
+    assert_eq!(rt; machine.sheet.lines().len(), rows.len());
 }
 
 // Two machines stand alike and have written the same lines.
@@ -81,15 +81,8 @@ pub(crate) fn check_alike<H: Holding + Drop>(
     one: &Machine<H>,
     other: &Machine<H>,
 ) {
-    check_stands(
-        rt,
-        one,
-        outcome(other.control.next),
-        other.sheet.spent,
-        other.store.holding.tally(),
-    );
-    for (line, expected) in one.sheet.lines.iter().zip(&other.sheet.lines) {
-        assert_eq!(rt; row(line), row(expected));
-    }
-    assert_eq!(rt; one.sheet.lines.len(), other.sheet.lines.len());
+    assert_eq!(rt; one.control.next, other.control.next);
+    assert_eq!(rt; one.sheet.spent(), other.sheet.spent());
+    assert_eq!(rt; one.store.holding.tally(), other.store.holding.tally());
+    assert_eq!(rt; one.sheet.lines(), other.sheet.lines());
 }

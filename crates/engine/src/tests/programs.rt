@@ -1,6 +1,7 @@
 // The programs that are run, and the lines that they write.
 use super::files::*;
 use super::machines::LineRow;
+use semantics::lines::LineKind;
 use words::types::DataType;
 
 const MINUS_1: u32 = 0u32.wrapping_sub(1);
@@ -117,21 +118,21 @@ pub const EXPRESSIONS: Program<'static> = Program {
 };
 
 pub const EXPRESSIONS_LINES: [LineRow; 15] = [
-    (RELEASE, 7, 18, DataType::Int, MINUS_3),
-    (OUTPUT, 8, 18, DataType::Int, MINUS_3),
-    (RELEASE, 16, 26, DataType::Int, MINUS_1),
-    (OUTPUT, 17, 26, DataType::Int, MINUS_1),
-    (OUTPUT, 30, 35, DataType::Int, MINUS_3),
-    (OUTPUT, 36, 40, DataType::Bool, 0),
-    (OUTPUT, 47, 45, DataType::Bool, 1),
-    (RELEASE, 57, 52, DataType::Bool, 1),
-    (OUTPUT, 58, 52, DataType::Bool, 1),
-    (RELEASE, 65, 59, DataType::Bool, 0),
-    (OUTPUT, 66, 59, DataType::Bool, 0),
-    (RELEASE, 73, 66, DataType::Bool, 0),
-    (OUTPUT, 74, 66, DataType::Bool, 0),
-    (RELEASE, 82, 73, DataType::Int, 6),
-    (OUTPUT, 83, 73, DataType::Int, 6),
+    (LineKind::Release, 7, 18, DataType::Int, MINUS_3),
+    (LineKind::Output, 8, 18, DataType::Int, MINUS_3),
+    (LineKind::Release, 16, 26, DataType::Int, MINUS_1),
+    (LineKind::Output, 17, 26, DataType::Int, MINUS_1),
+    (LineKind::Output, 30, 35, DataType::Int, MINUS_3),
+    (LineKind::Output, 36, 40, DataType::Bool, 0),
+    (LineKind::Output, 47, 45, DataType::Bool, 1),
+    (LineKind::Release, 57, 52, DataType::Bool, 1),
+    (LineKind::Output, 58, 52, DataType::Bool, 1),
+    (LineKind::Release, 65, 59, DataType::Bool, 0),
+    (LineKind::Output, 66, 59, DataType::Bool, 0),
+    (LineKind::Release, 73, 66, DataType::Bool, 0),
+    (LineKind::Output, 74, 66, DataType::Bool, 0),
+    (LineKind::Release, 82, 73, DataType::Int, 6),
+    (LineKind::Output, 83, 73, DataType::Int, 6),
 ];
 
 // Statements, with a public local i and a held local s.
@@ -218,14 +219,14 @@ pub const STATEMENTS: Program<'static> = Program {
 };
 
 pub const STATEMENTS_LINES: [LineRow; 8] = [
-    (OUTPUT, 20, 29, DataType::Int, 1),
-    (OUTPUT, 20, 66, DataType::Int, 3),
-    (OUTPUT, 20, 103, DataType::Int, 5),
-    (OUTPUT, 28, 163, DataType::Int, 6),
-    (RELEASE, 51, 178, DataType::Int, 7),
-    (OUTPUT, 52, 178, DataType::Int, 7),
-    (RELEASE, 57, 182, DataType::Int, 0),
-    (OUTPUT, 58, 182, DataType::Int, 0),
+    (LineKind::Output, 20, 29, DataType::Int, 1),
+    (LineKind::Output, 20, 66, DataType::Int, 3),
+    (LineKind::Output, 20, 103, DataType::Int, 5),
+    (LineKind::Output, 28, 163, DataType::Int, 6),
+    (LineKind::Release, 51, 178, DataType::Int, 7),
+    (LineKind::Output, 52, 178, DataType::Int, 7),
+    (LineKind::Release, 57, 182, DataType::Int, 0),
+    (LineKind::Output, 58, 182, DataType::Int, 0),
 ];
 
 // Calls: less has a public result, tell none, and scaled a held one, with a held parameter x and a held local t. A global h is
@@ -335,11 +336,11 @@ pub const CALLS: Program<'static> = Program {
 };
 
 pub const CALLS_LINES: [LineRow; 5] = [
-    (OUTPUT, 27, 31, DataType::Int, 5),
-    (RELEASE, 56, 72, DataType::Int, MINUS_12),
-    (OUTPUT, 57, 72, DataType::Int, MINUS_12),
-    (RELEASE, 74, 118, DataType::Int, 3),
-    (OUTPUT, 75, 118, DataType::Int, 3),
+    (LineKind::Output, 27, 31, DataType::Int, 5),
+    (LineKind::Release, 56, 72, DataType::Int, MINUS_12),
+    (LineKind::Output, 57, 72, DataType::Int, MINUS_12),
+    (LineKind::Release, 74, 118, DataType::Int, 3),
+    (LineKind::Output, 75, 118, DataType::Int, 3),
 ];
 
 // A public quotient by zero, for a held cell h.
@@ -362,7 +363,7 @@ pub const ZERO_DIVISOR: Program<'static> = Program {
     procedures: &[(VOID, 0, 0, 10, 0)],
 };
 
-pub const ZERO_DIVISOR_LINES: [LineRow; 1] = [(OUTPUT, 1, 4, DataType::Int, 8)];
+pub const ZERO_DIVISOR_LINES: [LineRow; 1] = [(LineKind::Output, 1, 4, DataType::Int, 8)];
 
 // A loop without an end that outputs a public i, and sums it up in a held h.
 pub const COUNTING: Program<'static> = Program {

@@ -4,7 +4,7 @@ use Rattle.tables.specs.View.{view}
 use Rattle.engine.specs.Shape.{move_fits}
 use Rattle.engine.specs.Standing.{entries}
 use Rattle.engine.specs.View.{move_of}
-use Rattle.engine.specs.Running.{program, frames, shown, kept}
+use Rattle.engine.specs.Running.{program, frames}
 use Rattle.engine.specs.declared.frames.Move.{Move}
 use Rattle.engine.proofs.Meeting.{push_fits, pushed_stands}
 use Rattle.engine.proofs.machine.Machine.drive.Goals as goal
@@ -20,14 +20,14 @@ pub returns-in-Under : goal.returns-in-Under
 returns-in-Under g c =
     let h = g.H.Holding in
     let m = c.args.self.now in
-    let fs = frames h.stands h.counts m in
-    let k = kept h.stands h.counts m in
+    let fs = frames h.stands m in
+    let k = m.store in
     let p = c.push.new.self in
     record {
       tables = c.push.ensures.tables;
       stands =
-          pushed_stands h.stands p.next c.in-Under.node c.in-Under.frame (entries m.control) (entries p) (shown h.stands h.counts m) k c.push.ensures.next c.push.ensures.entries
-          ∙ ap (λ (v : Move). model.drive (program m) fs (model.pass (program m) fs) (shown h.stands h.counts m) (move_of h.stands v k)) (sym c.in-Under.is);
+          pushed_stands h.stands p.next c.in-Under.node c.in-Under.frame (entries m.control) (entries p) m.sheet k c.push.ensures.next c.push.ensures.entries
+          ∙ ap (λ (v : Move). model.drive (program m) fs (model.pass (program m) fs) m.sheet (move_of h.stands v k)) (sym c.in-Under.is);
       entries = tt;
       fits = refl;
     }

@@ -1,15 +1,14 @@
 use Rattle.std.proofs.Common.{[], ◌∷◌, ap, ◌∙◌}
 use Rattle.typing.specs.Environment.{Environment}
-use Rattle.semantics.specs.State.{procedure}
+use Rattle.semantics.specs.State.{Shown, procedure}
 use Rattle.tables.specs.View.{view}
 use Rattle.engine.specs.Standing.{entries}
-use Rattle.engine.specs.View.{shown_of, kept_of, frames_of}
-use Rattle.engine.specs.Running.{config_of, shown, kept}
+use Rattle.engine.specs.View.{frames_of}
+use Rattle.engine.specs.Running.{config_of}
 use Rattle.engine.specs.declared.control.Control.{Control}
 use Rattle.engine.specs.declared.frames.Next.TheVariants.{Begin}
 use Rattle.engine.specs.declared.frames.Entry.TheVariants.{Frame as Framed}
 use Rattle.engine.specs.declared.frames.Frame.TheVariants.{Running}
-use Rattle.engine.specs.declared.sheet.Sheet.{Sheet}
 use Rattle.engine.proofs.Passing.{enter_fits, enters, entered_by}
 use Rattle.engine.proofs.machine.Machine.enter.Goals as goal
 
@@ -36,11 +35,11 @@ returns g c =
     let same = ap (λ (x : Control). x.tables) c.set_parameter.ensures.control ∙ c.bind-call.ensures.tables in
     let rest = ap entries c.set_parameter.ensures.control ∙ c.bind-call.ensures.entries in
     let body = c.enter-body.ensures.answer ∙ ap (λ (z : Environment). (procedure z call.procedure).body) (ap view same) in
-    let j = kept_of h.stands h.counts c.enter-body.new.self in
-    let inside = entered_by h.stands e (view b.control.tables) (view q.control.tables) call.procedure call.parameter c.args.figure (entries s) (kept h.stands h.counts m) (kept h.stands h.counts b) (kept h.stands h.counts q) j (ap view c.bind-call.ensures.tables) (ap view same) c.bind-call.ensures.parameter c.bind-call.ensures.kept c.set_parameter.ensures.kept c.enter-body.ensures.kept in
+    let j = c.enter-body.new.self in
+    let inside = entered_by h.stands e (view b.control.tables) (view q.control.tables) call.procedure call.parameter c.args.figure (entries s) m.store b.store q.store j (ap view c.bind-call.ensures.tables) (ap view same) c.bind-call.ensures.parameter c.bind-call.ensures.kept c.set_parameter.ensures.kept c.enter-body.ensures.kept in
     record {
       tables = c.push.ensures.tables ∙ same;
       stands =
-          ap (λ (x : Sheet). config_of p.next (frames_of h.stands [] (entries p)) (shown_of x) j) (c.set_parameter.ensures.sheet ∙ c.bind-call.ensures.sheet)
-          ∙ enters h.stands e p.next c.args.figure call.node call.procedure (entries s) (entries p) (shown h.stands h.counts m) (kept h.stands h.counts m) j c.requires c.bind-call.ensures.call (c.push.ensures.next ∙ ap Begin body) (c.push.ensures.entries ∙ ap (λ es. Framed (Running call.node) ∷ es) rest) inside;
+          ap (λ (x : Shown). config_of p.next (frames_of h.stands [] (entries p)) x j) (c.set_parameter.ensures.sheet ∙ c.bind-call.ensures.sheet)
+          ∙ enters h.stands e p.next c.args.figure call.node call.procedure (entries s) (entries p) m.sheet m.store j c.requires c.bind-call.ensures.call (c.push.ensures.next ∙ ap Begin body) (c.push.ensures.entries ∙ ap (λ es. Framed (Running call.node) ∷ es) rest) inside;
     }

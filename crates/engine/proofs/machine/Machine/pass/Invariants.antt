@@ -7,7 +7,7 @@ abbrev pub invariant-loop-handed : goal.invariant-loop-handed
 invariant-loop-handed g l =
     let h = g.H.Holding in
     (l.self.control.tables ≡ l.initial.self.control.tables)
-    × (handing h.stands h.counts l.handed l.self ≡ handing h.stands h.counts l.initial.handed l.initial.self)
+    × (handing h.stands l.handed l.self ≡ handing h.stands l.initial.handed l.initial.self)
     × (handed_fits (program l.self) (length (entries l.self.control)) l.handed ≡ true)
 
 abbrev pub decreases-loop-handed : goal.decreases-loop-handed

@@ -5,7 +5,7 @@ use Rattle.tables.specs.View.{view}
 use Rattle.engine.specs.Shape.{argument_fits}
 use Rattle.engine.specs.Standing.{entries}
 use Rattle.engine.specs.View.{value_of}
-use Rattle.engine.specs.Running.{program, frames, shown, kept}
+use Rattle.engine.specs.Running.{program, frames}
 use Rattle.engine.proofs.Passing.{passes_fits, next_argument}
 use Rattle.engine.proofs.machine.Machine.pass_figure.Goals as goal
 
@@ -24,6 +24,6 @@ returns-in-Some g c =
     record {
       tables = c.push.ensures.tables;
       stands =
-          next_argument h.stands (program m) p.next c.args.figure c.in-Some.argument (entries m.control) (entries p) (shown h.stands h.counts m) (kept h.stands h.counts m) c.requires.call c.push.ensures.next c.push.ensures.entries
-          ∙ ap (λ (o : Option ℕ). model.pass (program m) (frames h.stands h.counts m) (Argues (value_of h.stands c.args.figure) o) (shown h.stands h.counts m) (kept h.stands h.counts m)) (sym c.in-Some.is);
+          next_argument h.stands (program m) p.next c.args.figure c.in-Some.argument (entries m.control) (entries p) m.sheet m.store c.requires.call c.push.ensures.next c.push.ensures.entries
+          ∙ ap (λ (o : Option ℕ). model.pass (program m) (frames h.stands m) (Argues (value_of h.stands c.args.figure) o) m.sheet m.store) (sym c.in-Some.is);
     }

@@ -3,7 +3,7 @@ use Rattle.typing.specs.Environment.{Environment}
 use Rattle.semantics.specs.Machine as model
 use Rattle.semantics.proofs.Theorems.{machine_follows, turns_add}
 use Rattle.tables.specs.View.{view}
-use Rattle.engine.specs.Running.{program, frames, shown, kept, standing}
+use Rattle.engine.specs.Running.{program, frames, standing}
 use Rattle.engine.proofs.Turning.{run_none, run_more, run_ended}
 use Rattle.engine.proofs.machine.Machine.run.Goals as goal
 
@@ -11,7 +11,7 @@ pub loop-init : goal.loop-init
 loop-init g c =
     let h = g.H.Holding in
     let m = c.args.self.now in
-    (refl, run_none (program m) (standing h.stands h.counts m), omega arith)
+    (refl, run_none (program m) (standing h.stands m), omega arith)
 
 pub turn-requires : goal.turn-requires
 turn-requires g c =
@@ -24,11 +24,11 @@ loop-preserved g c =
     let m = c.args.self.now in
     let l = c.loop.self in
     let e = program m in
-    let at = standing h.stands h.counts m in
+    let at = standing h.stands m in
     let same : program l ≡ e = ap view c.loop.invariant.0 in (
       c.turn.ensures.tables ∙ c.loop.invariant.0,
-      run_more e c.loop.counter at (standing h.stands h.counts c.turn.new.self)
-          (c.turn.ensures.stands ∙ ap (λ (z : Environment). model.turn z (standing h.stands h.counts l)) same ∙ ap (model.turn e) c.loop.invariant.1),
+      run_more e c.loop.counter at (standing h.stands c.turn.new.self)
+          (c.turn.ensures.stands ∙ ap (λ (z : Environment). model.turn z (standing h.stands l)) same ∙ ap (model.turn e) c.loop.invariant.1),
       omega (arith, c.turn.ensures.spent, c.loop.invariant.2),
     )
 
@@ -38,13 +38,13 @@ returns-in-Ended g c =
     let m = c.args.self.now in
     let l = c.loop.self in
     let e = program m in
-    let at = standing h.stands h.counts m in
+    let at = standing h.stands m in
     let less : c.loop.counter < c.args.steps = search rules in
     let rest : c.loop.counter + (c.args.steps - c.loop.counter) ≡ c.args.steps = omega (arith, less) in
     record {
       tables = c.loop.invariant.0;
       stands =
-          run_ended e c.loop.counter (c.args.steps - c.loop.counter) at l.control.next _ (frames h.stands h.counts l) (shown h.stands h.counts l) (kept h.stands h.counts l) c.loop.invariant.1 c.in-Ended.is
+          run_ended e c.loop.counter (c.args.steps - c.loop.counter) at l.control.next _ (frames h.stands l) l.sheet l.store c.loop.invariant.1 c.in-Ended.is
           ∙ ap (λ (n : ℕ). model.run e n at) rest;
       spent = omega (arith, c.loop.invariant.2, less);
       follows = machine_follows e;
@@ -59,7 +59,7 @@ returns g c =
     let all : c.loop.counter ≡ c.args.steps = search rules in
     record {
       tables = c.loop.invariant.0;
-      stands = c.loop.invariant.1 ∙ ap (λ (n : ℕ). model.run e n (standing h.stands h.counts m)) all;
+      stands = c.loop.invariant.1 ∙ ap (λ (n : ℕ). model.run e n (standing h.stands m)) all;
       spent = omega (arith, c.loop.invariant.2, all);
       follows = machine_follows e;
       adds = turns_add e;

@@ -7,5 +7,5 @@ abbrev pub invariant-loop : goal.invariant-loop
 invariant-loop g l =
     let h = g.H.Holding in
     (l.self.control.tables ≡ l.initial.self.control.tables)
-    × (standing h.stands h.counts l.self ≡ model.run (program l.initial.self) l.counter (standing h.stands h.counts l.initial.self))
+    × (standing h.stands l.self ≡ model.run (program l.initial.self) l.counter (standing h.stands l.initial.self))
     × (l.self.sheet.spent ≤ l.initial.self.sheet.spent + l.counter)

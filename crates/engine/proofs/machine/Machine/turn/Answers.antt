@@ -1,5 +1,5 @@
 use Rattle.std.proofs.Common.{◌∙◌}
-use Rattle.engine.specs.Running.{program, frames, shown, kept}
+use Rattle.engine.specs.Running.{program, frames}
 use Rattle.engine.proofs.Turning.{turned, turned_spends}
 use Rattle.engine.proofs.machine.Machine.turn.Goals as goal
 
@@ -9,14 +9,14 @@ returns g c =
     let m = c.args.self.now in
     let p = c.pass.new.self in
     let e = program m in
-    let fs = frames h.stands h.counts m in
-    let s = shown h.stands h.counts m in
-    let k = kept h.stands h.counts m in
+    let fs = frames h.stands m in
+    let s = m.sheet in
+    let k = m.store in
     let stands =
     c.pass.ensures.stands ∙ c.drive-handed.ensures.stands
     ∙ turned e m.control.next c.args.node fs s _ k _ c.requires.begins c.tick.ensures c.begin-step.ensures.moves in
     record {
       tables = c.pass.ensures.tables ∙ c.drive-handed.ensures.tables;
       stands = stands;
-      spent = turned_spends e m.control.next p.control.next c.args.node fs (frames h.stands h.counts p) s (shown h.stands h.counts p) k (kept h.stands h.counts p) c.requires.begins stands;
+      spent = turned_spends e m.control.next p.control.next c.args.node fs (frames h.stands p) s p.sheet k p.store c.requires.begins stands;
     }

@@ -1,13 +1,15 @@
-use Rattle.std.proofs.Common.{rules}
-use Rattle.engine.proofs.Numbered.{cell_read, no_cell}
+use Rattle.std.proofs.Common.{sym, ap, ◌∙◌}
+use Rattle.std.proofs.Math.ListN.{get_or-map}
+use Rattle.std.proofs.lemmas.Option.{unwrap_or-slice_get}
+use Rattle.std.specs.Option.{unwrap_or}
+use Rattle.semantics.specs.declared.values.Value.TheVariants.{Plain}
+use Rattle.semantics.specs.State.{cell}
+use Rattle.engine.specs.View.{value_of}
 use Rattle.engine.proofs.store.Store.read.Goals as goal
 
-pub returns-then-variable-lt-CELLS : goal.returns-then-variable-lt-CELLS
-returns-then-variable-lt-CELLS g c =
-    let cells = c.args.self.now.cells in
-    cell_read g.H.Holding.stands cells.cells cells.whole c.args.variable c.read.result (search rules) c.read.ensures
-
-pub returns-else-variable-lt-CELLS : goal.returns-else-variable-lt-CELLS
-returns-else-variable-lt-CELLS g c =
-    let cells = c.args.self.now.cells in
-    no_cell g.H.Holding.stands cells.cells cells.whole c.args.variable (search rules)
+pub returns : goal.returns
+returns g c =
+    let word = value_of g.H.Holding.stands in
+    let cells = c.self.inside.cells.cells in
+    let v = c.args.variable in
+    ap word (c.unwrap_or.ensures ∙ ap (λ o. unwrap_or o (Plain 0)) c.read.ensures ∙ unwrap_or-slice_get cells v (Plain 0)) ∙ sym (get_or-map word cells v (Plain 0)) ∙ ap (cell v) c.self.view_is
