@@ -25,3 +25,8 @@ goes_on f i x y o before here h = first_more f i before (here ∙ (none_at_ok x 
 pub grows : {X : Type 0} (t : List X → ℕ → X) (i : ℕ) (xs : List X) (x y : X) (o : Option Refusal) → xs ≡ table t i → t (table t i) i ≡ x → Ok y ≡ checked x o → xs ++ y ∷ [] ≡ table t (i + 1)
 grows t i xs x y o before here h =
     ap (λ (ys : List _). ys ++ y ∷ []) before ∙ ap (λ (z : _). table t i ++ z ∷ []) ((none_at_ok x y o h).1 ∙ sym here) ∙ sym (table_more t i)
+
+-- a fault is the same whatever is wanted
+pub fault_of_any : {X Y : Type 0} (x : X) (y : Y) (o : Option Refusal) (e : Refusal) → Err e ≡ checked x o → Err e ≡ checked y o
+fault_of_any x y None e h = let z : ◌≡◌ {A = ℕ} 0 1 = cc in absurd (omega arith)
+fault_of_any x y (Some f) e h = cc

@@ -1,9 +1,9 @@
 -- The table of names counts how often each node is named.
-use Rattle.std.proofs.Common.{◌≡◌, ℕ, zero, suc, ◌+◌, ◌<◌, Bool, true, false, cond, ◌||◌, eqb, ltb, ◌≢◌, List, [], ◌∷◌, ◌++◌, length, get_or, take, set, replicate, fold, sym, refl, ap, ◌∙◌, subst, add-zero, add_assoc, zero-add, add-one, length-set, get_or-set_other, get_or-set_same, rules}
-use lib.ListN.{length-replicate, get_or-replicate, replicate-append-replicate}
+use Rattle.std.proofs.Common.{◌≡◌, ℕ, zero, suc, ◌+◌, ◌<◌, Bool, true, false, cond, ◌||◌, eqb, ltb, ◌≢◌, List, [], ◌∷◌, ◌++◌, length, get_or, take, set, replicate, fold, Option, sym, refl, ap, ◌∙◌, subst, add-zero, add_assoc, zero-add, add-one, length-set, get_or-set_other, get_or-set_same, rules}
+use lib.ListN.{length-replicate, get_or-replicate}
 use Rattle.std.proofs.lemmas.List.Sums.{fold_more}
 use Rattle.std.proofs.lemmas.Bool.{eqb-true, eqb-false, lt-ltb}
-use Rattle.program.specs.Program.{children, times_in}
+use Rattle.program.specs.Program.{optional, present, children, times_in}
 use Rattle.program.specs.declared.records.Procedure.{Procedure}
 use Rattle.program.specs.declared.refusal.Refusal.TheVariants.{Naming as BadNaming}
 use Rattle.typing.specs.Faults.{times_named, is_body, name_fault}
@@ -94,10 +94,19 @@ counts_say ds ns =
     ∙ first_same (count_fault ds (names_of ns)) (name_fault ds ns) (length ns)
     (λ k lt. ap (λ (b : Bool). unless (is_body ds k || b) (BadNaming k)) (ap is_once (names_at ns k lt) ∙ once_tally (times_named k ns)))
 
+-- the children that are there, counted one by one
+all_append : (ks js : List ℕ) (ms : List Naming) → marked_all ms (ks ++ js) ≡ marked_all (marked_all ms ks) js
+all_append [] js ms = refl
+all_append (k ∷ ks) js ms = all_append ks js (marked ms k)
+
+abbrev pub marked_if : List Naming → Option ℕ → List Naming
+marked_if ms o = marked_all ms (optional o)
+
+pub present_marked : (os : List (Option ℕ)) (ms : List Naming) → fold marked_if ms os ≡ marked_all ms (present os)
+present_marked [] ms = refl
+present_marked (o ∷ os) ms = present_marked os (marked_if ms o) ∙ sym (all_append (optional o) (present os) ms)
+
 -- one node further, from any counts ms before
 pub marked_more : (ms : List Naming) (ns : List TypedNode) (i : ℕ) (d : TypedNode) (xs : List Naming) → i < length ns → xs ≡ fold marked_by ms (take i ns) → marked_all xs (children (get_or ns i d).node) ≡ fold marked_by ms (take (i + 1) ns)
 marked_more ms ns i d xs lt e =
     ap (λ (ys : List Naming). marked_by ys (get_or ns i d)) e ∙ sym (fold_more marked_by ms ns i d lt)
-
-pub never_more : (n : ℕ) → replicate n Never ++ Never ∷ [] ≡ replicate (n + 1) Never
-never_more n = replicate-append-replicate n 1 Never

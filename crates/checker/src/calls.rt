@@ -3,18 +3,19 @@ ghost use Rattle.std.specs.Prelude.{◌≡◌};
 ghost use Rattle.typing.specs.Rows.{calls_fit};
 ghost use Rattle.tables.specs.View.{view};
 
-use crate::arguments::call_fits;
+use crate::site::Site;
 use levels::Levels;
 use program::records::Node;
-use tables::tables::Tables;
 use typing::rows::ArgumentTest;
 
-pub(crate) fn calls_fit<L: Levels>(levels: &L, tables: &Tables, current: u16, node: Node) -> bool
-    ensures { result ≡ calls_fit L.Levels.rules (view tables.now) current node }
-{
-    match node {
-        Node::Call { procedure, first } => procedure < current
-            && call_fits(levels, tables, ArgumentTest::Number, procedure, first),
-        _ => true,
+impl<L: Levels> Site<'_, L> {
+    pub(crate) fn calls_fit(&self, node: Node) -> bool
+        ensures { result ≡ calls_fit L.Levels.rules (view self.now.tables.now) self.now.procedure node }
+    {
+        match node {
+            Node::Call { procedure, first } => procedure < self.procedure
+                && self.call_fits(ArgumentTest::Number, procedure, first),
+            _ => true,
+        }
     }
 }

@@ -4,11 +4,10 @@ ghost use Rattle.typing.specs.Exits.{union, sequence_exits, loop_exits};
 ghost use Rattle.typing.specs.Rows.{repeats, parts_fit, body_exits_fit, body_fits, exits_fit};
 ghost use Rattle.tables.specs.View.{view};
 
-use crate::class::class_of;
+use crate::site::Site;
 use levels::Levels;
 use program::records::{Node, Procedure};
 use tables::lookups::FALLING;
-use tables::tables::Tables;
 use typing::classes::{Class, Exits};
 use words::types::DataType;
 
@@ -48,18 +47,10 @@ pub(crate) fn either(one: Exits, other: Exits) -> Exits
 pub(crate) fn in_sequence(first: Exits, second: Exits) -> Exits
     ensures { result ≡ sequence_exits first second }
 {
-    let Exits {
-        returns,
-        breaks,
-        continues,
-        ..
-    } = first;
     either(
         Exits {
             falls: false,
-            returns,
-            breaks,
-            continues,
+            ..first
         },
         second,
     )
@@ -69,13 +60,11 @@ pub(crate) fn in_sequence(first: Exits, second: Exits) -> Exits
 pub(crate) fn around(body: Exits) -> Exits
     ensures { result ≡ loop_exits body }
 {
-    let Exits { falls, returns, .. } = body;
     either(
         Exits {
-            falls,
-            returns,
             breaks: false,
             continues: false,
+            ..body
         },
         FALLING,
     )
@@ -85,16 +74,6 @@ fn comes_round(body: Exits) -> bool
     ensures { result ≡ repeats body }
 {
     body.falls || body.continues
-}
-
-fn parts_fit(tables: &Tables, node: Node) -> bool
-    ensures { result ≡ parts_fit (view tables.now) node }
-{
-    match node {
-        Node::Sequence { first, .. } => tables.exits(first).falls,
-        Node::While { body, .. } | Node::DoWhile { body, .. } => comes_round(tables.exits(body)),
-        _ => true,
-    }
 }
 
 fn body_exits_fit(res: Option<DataType>, exits: Exits) -> bool
@@ -123,19 +102,23 @@ fn body_fits(place: u16, procedure: Option<Procedure>, class: Class) -> bool
     body_exits_fit(procedure.result, exits)
 }
 
-pub(crate) fn exits_fit<L: Levels>(
-    levels: &L,
-    tables: &Tables,
-    place: u16,
-    current: u16,
-    node: Node,
-) -> bool
-    ensures { result ≡ exits_fit L.Levels.rules (view tables.now) place current node }
-{
-    parts_fit(tables, node)
-        && body_fits(
-            place,
-            tables.procedure(current),
-            class_of(levels, tables, node),
-        )
+impl<L: Levels> Site<'_, L> {
+    fn parts_fit(&self, node: Node) -> bool
+        ensures { result ≡ parts_fit (view self.now.tables.now) node }
+    {
+        match node {
+            Node::Sequence { first, .. } => self.tables.exits(first).falls,
+            Node::While { body, .. } | Node::DoWhile { body, .. } => comes_round(
+                self.tables.exits(body),
+            ),
+            _ => true,
+        }
+    }
+
+    pub(crate) fn exits_fit(&self, node: Node) -> bool
+        ensures { result ≡ exits_fit L.Levels.rules (view self.now.tables.now) self.now.place self.now.procedure node }
+    {
+        let procedure = self.tables.procedure(self.procedure);
+        self.parts_fit(node) && body_fits(self.place, procedure, self.class_of(node))
+    }
 }

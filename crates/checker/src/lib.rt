@@ -17,5 +17,6 @@ mod operators;
 mod procedures;
 mod rows;
 mod scope;
+mod site;
 mod variables;
 pub mod verdict;

@@ -8,8 +8,7 @@ ghost use Rattle.tables.specs.View.{view};
 ghost use Rattle.checker.specs.Records.{checked};
 
 use crate::bodies::next_procedure;
-use crate::class::class_of;
-use crate::rows::first_broken;
+use crate::site::Site;
 use levels::Levels;
 use program::decode::decode_node;
 use program::fields::{NodeFields, split_node};
@@ -17,25 +16,17 @@ use program::refusal::Refusal;
 use tables::tables::Tables;
 use typing::classes::TypedNode;
 
-fn check_node<L: Levels>(
-    levels: &L,
-    tables: &Tables,
-    place: u16,
-    current: u16,
-    fields: NodeFields,
-) -> Result<TypedNode, Refusal>
-    ensures { result ≡ checked (typed_node L.Levels.rules (view tables.now) current (known no_node (node_decoded fields))) (record_fault L.Levels.rules (view tables.now) place current (node_decoded fields)) }
-{
-    let Some(node) = decode_node(fields) else {
-        return Err(Refusal::Record(place));
-    };
-    match first_broken(levels, tables, place, current, node) {
-        Some(refusal) => Err(refusal),
-        None => Ok(TypedNode {
+impl<L: Levels> Site<'_, L> {
+    fn check_node(&self, fields: NodeFields) -> Result<TypedNode, Refusal>
+        ensures { result ≡ checked (typed_node L.Levels.rules (view self.now.tables.now) self.now.procedure (known no_node (node_decoded fields))) (record_fault L.Levels.rules (view self.now.tables.now) self.now.place self.now.procedure (node_decoded fields)) }
+    {
+        let node = decode_node(fields).ok_or(Refusal::Record(self.place))?;
+        self.try_rows(node)?;
+        Ok(TypedNode {
             node,
-            procedure: current,
-            class: class_of(levels, tables, node),
-        }),
+            procedure: self.procedure,
+            class: self.class_of(node),
+        })
     }
 }
 
@@ -62,9 +53,16 @@ pub(crate) fn check_nodes<L: Levels>(
             unreachable()
         };
         left = rest;
-        let node = check_node(levels, tables, place as u16, procedure, fields)?;
+        let place = place as u16;
+        let site = Site {
+            levels,
+            tables,
+            procedure,
+            place,
+        };
+        let node = site.check_node(fields)?;
         tables.nodes.push_reserved(node);
-        procedure = next_procedure(tables, procedure, place as u16);
+        procedure = next_procedure(tables, procedure, place);
     }
     Ok(())
 }

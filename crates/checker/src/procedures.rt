@@ -1,12 +1,13 @@
 // The procedure records, and rows 5 to 8.
-ghost use Rattle.std.specs.Prelude.{◌≡◌, ◌*◌, ◌<◌, ◌≤◌, [], length, Some, vec_capacity, OnOk};
+ghost use Rattle.std.specs.Prelude.{◌≡◌, ◌+◌, ◌*◌, ◌<◌, ◌≤◌, ◌&&◌, [], length, Some, vec_capacity, OnOk, nat_le, nat_lt};
 ghost use Rattle.program.specs.Decode.{procedure_decoded};
 ghost use Rattle.program.specs.Program.{no_procedure};
 ghost use Rattle.program.specs.declared.refusal.Refusal.TheVariants.{Result as BadResult};
-ghost use Rattle.typing.specs.Faults.{known, procedures_in, result_fits, is_parameter_of, owned_at, all_below, parameters_fit, rises, body_stands, main_fits, procedure_rows, procedure_fault};
+ghost use Rattle.typing.specs.Faults.{known, procedures_in, result_fits, is_parameter_of, same_truth, owned_at, all_below, parameters_fit, rises, body_stands, main_fits, procedure_rows, procedure_fault};
 ghost use Rattle.typing.specs.First.{or_else, unless, first};
 ghost use Rattle.checker.specs.Records.{checked};
 
+use crate::rows::require;
 use levels::Levels;
 use program::decode::{decode_procedure, is_statement_kind};
 use program::fields::{ProcedureFields, split_procedure};
@@ -20,37 +21,24 @@ fn result_fits<L: Levels>(levels: &L, procedure: Procedure) -> bool
     levels.is_level(procedure.level) && (procedure.result.is_some() || procedure.level == 0)
 }
 
-fn is_parameter_of(procedure: usize, role: Role) -> bool
-    ensures { result ≡ is_parameter_of procedure role }
-{
-    match role {
-        Role::Parameter { procedure: owner } => owner as usize == procedure,
-        Role::Global | Role::Input | Role::Local { .. } => false,
-    }
-}
-
 // Whether a variable is a parameter of the procedure exactly if it is one of the `count` from `first` on.
-fn is_owned(variables: &[Variable], procedure: usize, first: u16, count: u8, place: usize) -> bool
-    requires { place < length variables.now }
-    ensures { result ≡ owned_at variables.now procedure first count place }
+fn is_owned(variable: Variable, place: usize, procedure: u16, first: u16, count: u8) -> bool
+    ensures { result ≡ same_truth (is_parameter_of procedure variable.role) (nat_le first place && nat_lt place (first + count)) }
 {
     let first = first as usize;
     let among = first <= place && place < first + count as usize;
-    is_parameter_of(procedure, variables[place].role) == among
+    (variable.role == Role::Parameter { procedure }) == among
 }
 
-fn all_owned(variables: &[Variable], procedure: usize, first: u16, count: u8) -> bool
+fn all_owned(variables: &[Variable], procedure: u16, first: u16, count: u8) -> bool
     ensures { result ≡ all_below (owned_at variables.now procedure first count) (length variables.now) }
 {
-    for place in 0..variables.len() {
-        if !is_owned(variables, procedure, first, count, place) {
-            return false;
-        }
-    }
-    true
+    variables.iter().enumerate().all(|(place, variable)| is_owned(
+        *variable, place, procedure, first, count,
+    ))
 }
 
-fn parameters_fit(variables: &[Variable], place: usize, procedure: Procedure) -> bool
+fn parameters_fit(variables: &[Variable], place: u16, procedure: Procedure) -> bool
     ensures { result ≡ parameters_fit variables.now place procedure }
 {
     let Procedure {
@@ -68,8 +56,7 @@ fn parameters_fit(variables: &[Variable], place: usize, procedure: Procedure) ->
 fn is_above(procedures: &[Procedure], body: u16) -> bool
     ensures { result ≡ rises procedures.now body }
 {
-    let count = procedures.len();
-    count == 0 || procedures[count - 1].body < body
+    procedures.last().is_none_or(|last| last.body < body)
 }
 
 fn body_stands(
@@ -97,31 +84,6 @@ fn main_fits(procedures: usize, place: usize, procedure: Procedure) -> bool
     place + 1 != procedures || (procedure.result.is_none() && procedure.parameters == 0)
 }
 
-fn procedure_fault(
-    file: &[u8],
-    layout: Layout,
-    variables: &[Variable],
-    procedures: &[Procedure],
-    place: usize,
-    procedure: Procedure,
-) -> Option<Refusal>
-    requires nodes_in_bounds { 12 * layout.nodes ≤ length file.now }
-    requires procedures_bound { layout.procedures ≤ 32 }
-    requires place_lt_procedures { place < layout.procedures }
-    ensures { result ≡ procedure_rows file.now layout.nodes layout.procedures variables.now procedures.now place procedure }
-{
-    if !parameters_fit(variables, place, procedure) {
-        return Some(Refusal::Parameters(place as u16));
-    }
-    if !body_stands(file, layout, procedures, place, procedure.body) {
-        return Some(Refusal::Body(place as u16));
-    }
-    if !main_fits(layout.procedures, place, procedure) {
-        return Some(Refusal::Main(place as u16));
-    }
-    None
-}
-
 fn check_procedure<L: Levels>(
     levels: &L,
     file: &[u8],
@@ -136,16 +98,22 @@ fn check_procedure<L: Levels>(
     requires place_lt_procedures { place < layout.procedures }
     ensures { result ≡ checked (known no_procedure (procedure_decoded fields)) (or_else (unless (result_fits L.Levels.rules (procedure_decoded fields)) (BadResult place)) (procedure_rows file.now layout.nodes layout.procedures variables.now procedures.now place (known no_procedure (procedure_decoded fields)))) }
 {
-    let Some(procedure) = decode_procedure(fields) else {
-        return Err(Refusal::Result(place as u16));
-    };
-    if !result_fits(levels, procedure) {
-        return Err(Refusal::Result(place as u16));
-    }
-    match procedure_fault(file, layout, variables, procedures, place, procedure) {
-        Some(refusal) => Err(refusal),
-        None => Ok(procedure),
-    }
+    let number = place as u16;
+    let procedure = decode_procedure(fields).ok_or(Refusal::Result(number))?;
+    require(result_fits(levels, procedure), Refusal::Result(number))?;
+    require(
+        parameters_fit(variables, number, procedure),
+        Refusal::Parameters(number),
+    )?;
+    require(
+        body_stands(file, layout, procedures, place, procedure.body),
+        Refusal::Body(number),
+    )?;
+    require(
+        main_fits(layout.procedures, place, procedure),
+        Refusal::Main(number),
+    )?;
+    Ok(procedure)
 }
 
 // Checks the records at the front of `part`, the file's procedures.

@@ -1,76 +1,33 @@
 // The rows that refuse a decoded node, in order.
 ghost use Rattle.std.specs.Prelude.{◌≡◌};
-ghost use Rattle.typing.specs.Rows.{node_rows, passes, refusal_of, first_broken};
+ghost use Rattle.typing.specs.First.{unless};
+ghost use Rattle.typing.specs.Rows.{node_rows, first_broken};
 ghost use Rattle.tables.specs.View.{view};
+ghost use Rattle.checker.specs.Records.{checked};
 
-use crate::calls::calls_fit;
-use crate::children::children_fit;
-use crate::data_types::types_fit;
-use crate::exits::exits_fit;
-use crate::flows::levels_fit;
-use crate::scope::scope_fits;
+use crate::site::Site;
 use levels::Levels;
 use program::records::Node;
 use program::refusal::Refusal;
-use tables::tables::Tables;
-use typing::rows::NodeRow;
 
-const NODE_ROWS: [NodeRow; 6] = [
-    NodeRow::Child,
-    NodeRow::Scope,
-    NodeRow::Call,
-    NodeRow::DataType,
-    NodeRow::Level,
-    NodeRow::Exits,
-];
-
-fn row_passes<L: Levels>(
-    levels: &L,
-    tables: &Tables,
-    place: u16,
-    current: u16,
-    node: Node,
-    row: NodeRow,
-) -> bool
-    ensures { result ≡ passes L.Levels.rules (view tables.now) place current node row }
+// Refuses what does not pass.
+pub(crate) fn require(passes: bool, refusal: Refusal) -> Result<(), Refusal>
+    ensures { result ≡ checked tt (unless passes refusal) }
 {
-    match row {
-        NodeRow::Child => children_fit(tables, place, current, node),
-        NodeRow::Scope => scope_fits(tables, current, node),
-        NodeRow::Call => calls_fit(levels, tables, current, node),
-        NodeRow::DataType => types_fit(levels, tables, current, node),
-        NodeRow::Level => levels_fit(levels, tables, current, node),
-        NodeRow::Exits => exits_fit(levels, tables, place, current, node),
-    }
+    if passes { Ok(()) } else { Err(refusal) }
 }
 
-fn refusal_of(row: NodeRow, place: u16) -> Refusal
-    ensures { result ≡ refusal_of row place }
-{
-    match row {
-        NodeRow::Child => Refusal::Child(place),
-        NodeRow::Scope => Refusal::Scope(place),
-        NodeRow::Call => Refusal::Call(place),
-        NodeRow::DataType => Refusal::DataType(place),
-        NodeRow::Level => Refusal::Level(place),
-        NodeRow::Exits => Refusal::Exits(place),
+impl<L: Levels> Site<'_, L> {
+    // Tries the rows on a node, up to the first that it does not pass.
+    pub(crate) fn try_rows(&self, node: Node) -> Result<(), Refusal>
+        ensures { result ≡ checked tt (first_broken L.Levels.rules (view self.now.tables.now) self.now.place self.now.procedure node node_rows) }
+    {
+        let place = self.place;
+        require(self.children_fit(node), Refusal::Child(place))?;
+        require(self.scope_fits(node), Refusal::Scope(place))?;
+        require(self.calls_fit(node), Refusal::Call(place))?;
+        require(self.types_fit(node), Refusal::DataType(place))?;
+        require(self.levels_fit(node), Refusal::Level(place))?;
+        require(self.exits_fit(node), Refusal::Exits(place))
     }
-}
-
-// The refusal of the first row that a node does not pass.
-pub(crate) fn first_broken<L: Levels>(
-    levels: &L,
-    tables: &Tables,
-    place: u16,
-    current: u16,
-    node: Node,
-) -> Option<Refusal>
-    ensures { result ≡ first_broken L.Levels.rules (view tables.now) place current node node_rows }
-{
-    for row in NODE_ROWS {
-        if !row_passes(levels, tables, place, current, node, row) {
-            return Some(refusal_of(row, place));
-        }
-    }
-    None
 }

@@ -1,58 +1,55 @@
 // Row 12: a variable that is named is there, and of this procedure if it is a local or a parameter.
-ghost use Rattle.std.specs.Prelude.{◌≡◌};
+ghost use Rattle.std.specs.Prelude.{◌≡◌, option_map};
+ghost use Rattle.typing.specs.Environment.{variable_at};
 ghost use Rattle.typing.specs.Rows.{readable, assignable, definable, scope_fits};
 ghost use Rattle.tables.specs.View.{view};
 
-use program::records::{Node, Role, Variable};
-use tables::tables::Tables;
+use crate::site::Site;
+use program::records::{Node, Role};
 
-fn may_read(current: u16, variable: Option<Variable>) -> bool
-    ensures { result ≡ readable current variable }
-{
-    let Some(variable) = variable else {
-        return false;
-    };
-    match variable.role {
-        Role::Global | Role::Input => true,
-        Role::Local { procedure: owner } | Role::Parameter { procedure: owner } => owner == current,
+impl<L> Site<'_, L> {
+    fn role(&self, variable: u16) -> Option<Role>
+        ensures { result ≡ option_map (λ v. v.role) (variable_at (view self.now.tables.now) variable) }
+    {
+        Some(self.tables.variable(variable as usize)?.role)
     }
-}
 
-fn may_assign(current: u16, variable: Option<Variable>) -> bool
-    ensures { result ≡ assignable current variable }
-{
-    let Some(variable) = variable else {
-        return false;
-    };
-    match variable.role {
-        Role::Global | Role::Input => true,
-        Role::Local { procedure: owner } => owner == current,
-        Role::Parameter { .. } => false,
+    fn may_read(&self, variable: u16) -> bool
+        ensures { result ≡ readable self.now.procedure (variable_at (view self.now.tables.now) variable) }
+    {
+        match self.role(variable) {
+            Some(Role::Global | Role::Input) => true,
+            Some(Role::Local { procedure } | Role::Parameter { procedure }) => procedure
+                == self.procedure,
+            None => false,
+        }
     }
-}
 
-fn may_define(current: u16, variable: Option<Variable>) -> bool
-    ensures { result ≡ definable current variable }
-{
-    let Some(variable) = variable else {
-        return false;
-    };
-    match variable.role {
-        Role::Local { procedure: owner } => owner == current,
-        Role::Global | Role::Input | Role::Parameter { .. } => false,
+    fn may_assign(&self, variable: u16) -> bool
+        ensures { result ≡ assignable self.now.procedure (variable_at (view self.now.tables.now) variable) }
+    {
+        match self.role(variable) {
+            Some(Role::Global | Role::Input) => true,
+            Some(Role::Local { procedure }) => procedure == self.procedure,
+            Some(Role::Parameter { .. }) | None => false,
+        }
     }
-}
 
-pub(crate) fn scope_fits(tables: &Tables, current: u16, node: Node) -> bool
-    ensures { result ≡ scope_fits (view tables.now) current node }
-{
-    match node {
-        Node::Variable { variable } => may_read(current, tables.variable(variable as usize)),
-        Node::Assignment { variable, .. } => may_assign(
-            current,
-            tables.variable(variable as usize),
-        ),
-        Node::Definition { variable } => may_define(current, tables.variable(variable as usize)),
-        _ => true,
+    fn may_define(&self, variable: u16) -> bool
+        ensures { result ≡ definable self.now.procedure (variable_at (view self.now.tables.now) variable) }
+    {
+        let procedure = self.procedure;
+        self.role(variable) == Some(Role::Local { procedure })
+    }
+
+    pub(crate) fn scope_fits(&self, node: Node) -> bool
+        ensures { result ≡ scope_fits (view self.now.tables.now) self.now.procedure node }
+    {
+        match node {
+            Node::Variable { variable } => self.may_read(variable),
+            Node::Assignment { variable, .. } => self.may_assign(variable),
+            Node::Definition { variable } => self.may_define(variable),
+            _ => true,
+        }
     }
 }

@@ -32,10 +32,9 @@ fn check_variable<L: Levels>(
 ) -> Result<Variable, Refusal>
     ensures { result ≡ checked (known no_variable (variable_decoded fields)) (unless (variable_fits L.Levels.rules procedures (variable_decoded fields)) (BadVariable place)) }
 {
-    match decode_variable(fields) {
-        Some(variable) if variable_fits(levels, procedures, variable) => Ok(variable),
-        _ => Err(Refusal::Variable(place)),
-    }
+    decode_variable(fields)
+        .filter(|variable| variable_fits(levels, procedures, *variable))
+        .ok_or(Refusal::Variable(place))
 }
 
 // Checks `count` records at the front of `part`, in a file of so many procedures.

@@ -1,5 +1,5 @@
 -- A program as its lists of records. Assumes nothing.
-use Rattle.std.specs.Prelude.{ℕ, ◌+◌, cond, List, [], ◌∷◌, length, Some, None, Option, ◌==◌, nat_lt, slice_index_or}
+use Rattle.std.specs.Prelude.{ℕ, ◌+◌, cond, List, [], ◌∷◌, ◌++◌, length, Some, None, Option, ◌==◌, nat_lt, slice_index_or}
 use Rattle.words.specs.declared.types.DataType.TheVariants.{Bool as Boolean}
 use Rattle.program.specs.declared.records.Node.{Node}
 use Rattle.program.specs.declared.records.Node.TheVariants.{Constant, Variable, Minus, Not, Arithmetic, Comparison, And, Or, Choice, Assignment, Call, Argument, Release, Expression, Sequence, If, IfElse, While, DoWhile, Return, ReturnVoid, Break, Continue, Definition, Output}
@@ -28,6 +28,11 @@ no_procedure = record { result = None; parameters = 0; first_parameter = 0; body
 abbrev pub optional : Option ℕ → List ℕ
 optional None = []
 optional (Some k) = k ∷ []
+
+-- the numbers that are there, in order
+abbrev pub present : List (Option ℕ) → List ℕ
+present [] = []
+present (x ∷ xs) = optional x ++ present xs
 
 -- the nodes that a node names as its children, in order
 abbrev pub children : Node → List ℕ

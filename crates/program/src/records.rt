@@ -1,4 +1,7 @@
 // The records of a program: nodes, variables and procedures.
+ghost use Rattle.std.specs.Prelude.{◌≡◌};
+ghost use Rattle.program.specs.Program.{present, children};
+
 use words::types::{Arithmetic, Comparison, DataType};
 
 // A node of a program's trees. Nodes, variables and procedures are named by their numbers.
@@ -91,6 +94,47 @@ pub enum Node {
     Output {
         operand: u16,
     },
+}
+
+impl Node {
+    // The nodes that a node names as its children, in order.
+    pub fn children(self) -> [Option<u16>; 3]
+        ensures { present result ≡ children self }
+    {
+        match self {
+            Node::Minus { operand: child }
+            | Node::Not { operand: child }
+            | Node::Assignment { value: child, .. }
+            | Node::Release { operand: child }
+            | Node::Expression { value: child }
+            | Node::Return { value: child }
+            | Node::Output { operand: child } => [Some(child), None, None],
+            Node::Arithmetic { left, right, .. }
+            | Node::Comparison { left, right, .. }
+            | Node::And { left, right }
+            | Node::Or { left, right } => [Some(left), Some(right), None],
+            Node::Choice {
+                condition,
+                chosen,
+                otherwise,
+            } => [Some(condition), Some(chosen), Some(otherwise)],
+            Node::Sequence { first, second } => [Some(first), Some(second), None],
+            Node::If { condition, branch } => [Some(condition), Some(branch), None],
+            Node::IfElse {
+                condition,
+                branch,
+                otherwise,
+            } => [Some(condition), Some(branch), Some(otherwise)],
+            Node::While { condition, body } | Node::DoWhile { condition, body } => [
+                Some(condition),
+                Some(body),
+                None,
+            ],
+            Node::Call { first, .. } => [first, None, None],
+            Node::Argument { value, next } => [Some(value), next, None],
+            _ => [None; 3],
+        }
+    }
 }
 
 // Where a variable belongs; locals and parameters to the procedure of a number.

@@ -1,5 +1,5 @@
 // The records of the tables by number, and what is known of each.
-ghost use Rattle.std.specs.Prelude.{◌≡◌};
+ghost use Rattle.std.specs.Prelude.{◌≡◌, option_map};
 ghost use Rattle.typing.specs.Environment.{variable_at, procedure_at, node_at, type_of, level_of, exits_of};
 ghost use Rattle.typing.specs.Rows.{variable_type, variable_level, result_of, result_level};
 ghost use Rattle.tables.specs.View.{view};
@@ -20,40 +20,32 @@ impl Tables {
     pub fn variable(&self, number: usize) -> Option<Variable>
         ensures { result ≡ variable_at (view self.now) number }
     {
-        if number < self.variables.len() {
-            Some(self.variables[number])
-        } else {
-            None
-        }
+        self.variables.get(number).copied()
     }
 
     pub fn procedure(&self, number: u16) -> Option<Procedure>
         ensures { result ≡ procedure_at (view self.now) number }
     {
-        let number = number as usize;
-        if number < self.procedures.len() {
-            Some(self.procedures[number])
-        } else {
-            None
-        }
+        self.procedures.get(number as usize).copied()
     }
 
     pub fn node(&self, number: u16) -> Option<TypedNode>
         ensures { result ≡ node_at (view self.now) number }
     {
-        let number = number as usize;
-        if number < self.nodes.len() {
-            Some(self.nodes[number])
-        } else {
-            None
-        }
+        self.nodes.get(number as usize).copied()
+    }
+
+    fn class(&self, node: u16) -> Option<Class>
+        ensures { result ≡ option_map (λ n. n.class) (node_at (view self.now) node) }
+    {
+        Some(self.node(node)?.class)
     }
 
     // The data type of an expression; a void call has none.
     pub fn data_type(&self, node: u16) -> Option<DataType>
         ensures { result ≡ type_of (view self.now) node }
     {
-        match self.node(node)?.class {
+        match self.class(node)? {
             Class::Value { data_type, .. } => data_type,
             Class::Argument | Class::Statement { .. } => None,
         }
@@ -62,13 +54,8 @@ impl Tables {
     pub fn level(&self, node: u16) -> u32
         ensures { result ≡ level_of (view self.now) node }
     {
-        match self.node(node) {
-            Some(
-                TypedNode {
-                    class: Class::Value { level, .. },
-                    ..
-                },
-            ) => level,
+        match self.class(node) {
+            Some(Class::Value { level, .. }) => level,
             _ => 0,
         }
     }
@@ -76,13 +63,8 @@ impl Tables {
     pub fn exits(&self, node: u16) -> Exits
         ensures { result ≡ exits_of (view self.now) node }
     {
-        match self.node(node) {
-            Some(
-                TypedNode {
-                    class: Class::Statement { exits },
-                    ..
-                },
-            ) => exits,
+        match self.class(node) {
+            Some(Class::Statement { exits }) => exits,
             _ => FALLING,
         }
     }
@@ -96,10 +78,7 @@ impl Tables {
     pub fn variable_level(&self, number: usize) -> u32
         ensures { result ≡ variable_level (variable_at (view self.now) number) }
     {
-        match self.variable(number) {
-            Some(variable) => variable.level,
-            None => 0,
-        }
+        self.variable(number).map_or(0, |variable| variable.level)
     }
 
     // The data type of a procedure's result; a void procedure has none.
@@ -112,9 +91,7 @@ impl Tables {
     pub fn result_level(&self, procedure: u16) -> u32
         ensures { result ≡ result_level (procedure_at (view self.now) procedure) }
     {
-        match self.procedure(procedure) {
-            Some(procedure) => procedure.level,
-            None => 0,
-        }
+        self.procedure(procedure)
+            .map_or(0, |procedure| procedure.level)
     }
 }

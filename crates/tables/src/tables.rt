@@ -5,7 +5,7 @@ use program::records::{Procedure, Variable};
 use typing::classes::TypedNode;
 
 // How often a node is named as a child.
-#[derive(Clone, Copy)]
+#[derive(Clone, Copy, PartialEq, Eq)]
 pub enum Naming {
     Never,
     Once,

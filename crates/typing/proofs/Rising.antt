@@ -1,9 +1,11 @@
 -- Searches, tables and tests over rising numbers: one number further, and what a whole one says of each number.
-use Rattle.std.proofs.Common.{◌≡◌, ℕ, zero, suc, ◌+◌, ◌-◌, ◌*◌, ◌<◌, Bool, true, false, List, [], ◌∷◌, ◌++◌, length, get_or, drop, Some, None, Option, sym, refl, ap, ◌∙◌, subst, ⊎_elim, le_refl, le_of_suc-le-suc, not-suc-le-zero, suc-add, eq-or-lt_of_le, zero-add, mul-one, mul-add, add-one, arith, length-append, drop-drop}
+use Rattle.std.proofs.Common.{◌≡◌, ℕ, zero, suc, ◌+◌, ◌-◌, ◌*◌, ◌<◌, Bool, true, ◌&&◌, List, [], ◌∷◌, ◌++◌, length, get_or, drop, Some, None, Option, sym, refl, ap, ◌∙◌, subst, ⊎_elim, le_refl, le_of_suc-le-suc, not-suc-le-zero, suc-add, eq-or-lt_of_le, zero-add, mul-one, mul-add, add-one, arith, length-append, drop-drop}
 use native.Mathlib.Nat.{le_step}
 use lib.Seq.{get_or_at}
 use Rattle.std.proofs.lemmas.List.{get_or_append_left}
-use Rattle.std.proofs.lemmas.Bool.{and_parts, and_left}
+use Rattle.std.proofs.Math.Bool.{and-true, and_assoc}
+use Rattle.std.proofs.lemmas.Bool.{and_parts}
+use Rattle.std.specs.List.{list_all, enumerate_from}
 use Rattle.typing.specs.Faults.{all_below}
 use Rattle.typing.specs.First.{or_else, first, table}
 
@@ -79,26 +81,6 @@ table_at f d k (suc n) h =
 
 -- ---- tests of all numbers below one
 
-pub all_below_none : (t : ℕ → Bool) → all_below t 0 ≡ true
-unfolding all_below
-all_below_none t = refl
-
-pub all_below_more : (t : ℕ → Bool) (i : ℕ) → all_below t i ≡ true → t i ≡ true → all_below t (i + 1) ≡ true
-unfolding all_below
-all_below_more t i before here = rw (add-one, before) here
-
-all_below_kept : (t : ℕ → Bool) (i d : ℕ) → all_below t i ≡ false → all_below t (d + i) ≡ false
-unfolding all_below
-all_below_kept t i zero h = rw zero-add h
-all_below_kept t i (suc d) h = rw suc-add (and_left _ _ (all_below_kept t i d h))
-
-pub all_below_broken : (t : ℕ → Bool) (i n : ℕ) → all_below t i ≡ true → t i ≡ false → i < n → all_below t n ≡ false
-unfolding all_below
-all_below_broken t i n before here lt =
-    let broken : all_below t (suc i) ≡ false = rw before here in
-    let e : (n - suc i) + suc i ≡ n = omega arith in
-    subst (λ (m : ℕ). all_below t m ≡ false) e (all_below_kept t (suc i) (n - suc i) broken)
-
 pub all_below_at : (t : ℕ → Bool) (k n : ℕ) → all_below t n ≡ true → k < n → t k ≡ true
 unfolding all_below
 all_below_at t k zero h lt = absurd (not-suc-le-zero lt)
@@ -112,6 +94,23 @@ pub all_below_from : (t : ℕ → Bool) (n : ℕ) → ((k : ℕ) → k < n → t
 unfolding all_below
 all_below_from t zero h = refl
 all_below_from t (suc n) h = rw (all_below_from t n (λ k lt. h k (le_step lt))) (h n (le_refl (suc n)))
+
+-- the first number apart
+all_below_front : (t : ℕ → Bool) (n : ℕ) → all_below t (suc n) ≡ (t 0 && all_below (λ k. t (suc k)) n)
+unfolding all_below
+all_below_front t zero = sym (and-true (t 0))
+all_below_front t (suc n) =
+    ap (λ (b : Bool). b && t (suc n)) (all_below_front t n) ∙ and_assoc (t 0) (all_below (λ k. t (suc k)) n) (t (suc n))
+
+-- a test of all elements with their numbers, from n on
+pub all_enumerated : {X : Type 0} (test : ℕ × X → Bool) (d : X) (xs : List X) (n : ℕ) (t : ℕ → Bool) → ((k : ℕ) → test (n + k, get_or xs k d) ≡ t k) → list_all test (enumerate_from n xs) ≡ all_below t (length xs)
+unfolding all_below
+all_enumerated test d [] n t h = refl
+all_enumerated test d (x ∷ xs) n t h =
+    let shifted = λ (k : ℕ). (let e : n + 1 + k ≡ n + suc k = omega arith in ap (λ (m : ℕ). test (m, get_or xs k d)) e ∙ h (suc k)) in
+    let e : n ≡ n + 0 = omega arith in
+    rw (all_enumerated test d xs (n + 1) (λ k. t (suc k)) shifted, all_below_front t (length xs))
+    (ap (λ (b : Bool). b && all_below (λ k. t (suc k)) (length xs)) (ap (λ (m : ℕ). test (m, x)) e ∙ h 0))
 
 -- ---- the records of a part, one after another
 

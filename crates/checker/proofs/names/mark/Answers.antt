@@ -4,10 +4,10 @@ use borrow.Author.Rules.{get_or_read}
 use Rattle.checker.specs.Names.{marked}
 use Rattle.checker.proofs.names.mark.Goals as goal
 
-pub returns-then-child-len : goal.returns-then-child-len
+pub returns-then-child-names : goal.returns-then-child-names
 unfolding marked
-returns-then-child-len c = record { items = search (rules, get_or_read); capacity = search rules }
+returns-then-child-names c = search (rules, get_or_read)
 
-pub returns-else-child-len : goal.returns-else-child-len
+pub returns-else-child-names : goal.returns-else-child-names
 unfolding marked
-returns-else-child-len c = search rules
+returns-else-child-names c = search rules

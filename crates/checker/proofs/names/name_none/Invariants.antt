@@ -4,4 +4,4 @@ use Rattle.tables.specs.declared.tables.Naming.TheVariants.{Never}
 use Rattle.checker.proofs.names.name_none.Given as goal
 
 abbrev pub invariant-loop : goal.invariant-loop
-invariant-loop l = (vec_items l.names ≡ replicate l.counter Never) × (vec_capacity l.names ≡ vec_capacity l.initial.names)
+invariant-loop l = (vec_items l.names ≡ replicate l.index Never) × (vec_capacity l.names ≡ vec_capacity l.initial.names)

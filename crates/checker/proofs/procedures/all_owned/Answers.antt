@@ -1,15 +1,22 @@
--- One variable further, by whether it is owned as it should be.
-use Rattle.std.proofs.Common.{sym, ◌∙◌}
-use Rattle.typing.specs.Faults.{owned_at}
-use Rattle.typing.proofs.Rising.{all_below_none, all_below_more, all_below_broken}
+-- All variables are owned as they should be, tested one by one.
+use Rattle.std.proofs.Common.{ℕ, ◌+◌, ◌&&◌, nat_le, nat_lt, refl, ◌∙◌, zero-add, rules}
+use Rattle.std.proofs.lemmas.Iterator.{YieldsList-from_slice}
+use Rattle.std.proofs.lemmas.Iterator.Consumers.{YieldsList-from_enumerate}
+use Rattle.std.proofs.lemmas.Iterator.Search.{all_from_yields_List}
+use borrow.Author.Tests.{tests}
+use Rattle.program.specs.Program.{no_variable}
+use Rattle.program.specs.declared.records.Variable.{Variable}
+use Rattle.typing.specs.Faults.{same_truth, is_parameter_of}
+use Rattle.typing.proofs.Rising.{all_enumerated}
 use Rattle.checker.proofs.procedures.all_owned.Goals as goal
 
-pub loop-place-init : goal.loop-place-init
-loop-place-init c = all_below_none _
-
-pub loop-place-preserved : goal.loop-place-preserved
-loop-place-preserved c = all_below_more _ _ c.loop-place.invariant (sym c.is_owned.ensures ∙ c.if-not-is_owned.false)
-
-pub returns-then-not-is_owned : goal.returns-then-not-is_owned
-returns-then-not-is_owned c =
-    sym (all_below_broken (owned_at c.args.variables.now c.args.procedure c.args.first c.args.count) _ _ c.loop-place.invariant (sym c.is_owned.ensures ∙ c.if-not-is_owned.true) c.loop-place-test.true)
+pub returns : goal.returns
+returns c =
+    let vs = c.args.variables.now in
+    let q = c.args.procedure in
+    let f = c.args.first in
+    let n = c.args.count in
+    let test = λ (p : ℕ × Variable). same_truth (is_parameter_of q p.1.role) (nat_le f p.0 && nat_lt p.0 (f + n)) in
+    let each = YieldsList-from_enumerate (YieldsList-from_slice vs cc) cc in
+    all_from_yields_List test _ _ c.all.result c.all.ensures.ran each (λ x b q k. search (rules, tests))
+    ∙ all_enumerated test no_variable vs 0 _ (λ k. rw zero-add refl)

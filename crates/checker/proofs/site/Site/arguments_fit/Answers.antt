@@ -1,7 +1,7 @@
 -- One argument further, by what was found of it.
 use Rattle.std.proofs.Common.{sym, ◌∙◌, rules}
 use Rattle.checker.proofs.Further.{arguments_end, argument_missing, argument_broken, argument_fitting}
-use Rattle.checker.proofs.arguments.arguments_fit.Goals as goal
+use Rattle.checker.proofs.site.Site.arguments_fit.Goals as goal
 
 pub returns-in_default : goal.returns-in_default
 returns-in_default g c =

@@ -1,0 +1,23 @@
+-- One child further, if there is one.
+use Rattle.std.proofs.Common.{List, get_or, ap, sym, ◌∙◌, take_all, fold, arith, None}
+use Rattle.std.proofs.lemmas.List.Sums.{fold_more}
+use Rattle.tables.specs.declared.tables.Naming.{Naming}
+use Rattle.checker.proofs.Marks.{marked_if, present_marked}
+use Rattle.checker.specs.Names.{marked_all}
+use Rattle.checker.proofs.names.mark_children.Goals as goal
+
+pub loop-child-preserved : goal.loop-child-preserved
+loop-child-preserved c =
+    let os = c.children-child-items.result in
+    let i = c.loop-child.child-index in
+    c.mark.ensures
+    ∙ ap (λ (ms : List Naming). marked_if ms (get_or os i None)) c.loop-child.invariant
+    ∙ sym (fold_more marked_if c.args.names.now os i None (omega arith))
+
+pub returns : goal.returns
+returns c =
+    let os = c.children-child-items.result in
+    c.loop-child.invariant
+    ∙ ap (fold marked_if c.args.names.now) (take_all c.loop-child.child-index os (omega arith))
+    ∙ present_marked os c.args.names.now
+    ∙ ap (marked_all c.args.names.now) c.children-child-items.ensures
