@@ -1,6 +1,6 @@
 // Trials of the operators on plain words. A bool is computed and compared as an unsigned word.
 use crate::edges;
-use crate::edges::{EDGES, Table};
+use crate::edges::{DATA_TYPES, EDGES, Table};
 use std::process::Abort;
 use words::operators;
 use words::types::{Arithmetic, Comparison, DataType};
@@ -45,7 +45,7 @@ fn and_and_or(rt: HostRuntime) {
 
 #[test]
 fn sums_differences_and_products(rt: HostRuntime) {
-    for data_type in [DataType::Bool, DataType::Int, DataType::Unsigned] {
+    for data_type in DATA_TYPES {
         try_arithmetic(&rt, Arithmetic::Add, data_type, &edges::SUMS);
         try_arithmetic(&rt, Arithmetic::Subtract, data_type, &edges::DIFFERENCES);
         try_arithmetic(&rt, Arithmetic::Multiply, data_type, &edges::PRODUCTS);
@@ -84,7 +84,7 @@ fn quotients_and_remainders(rt: HostRuntime) {
 
 #[test]
 fn none_by_zero(rt: HostRuntime) {
-    for data_type in [DataType::Bool, DataType::Int, DataType::Unsigned] {
+    for data_type in DATA_TYPES {
         for a in EDGES {
             assert_eq!(rt; Arithmetic::Divide.apply(data_type, a, 0), None);
             assert_eq!(rt; Arithmetic::Remainder.apply(data_type, a, 0), None);
