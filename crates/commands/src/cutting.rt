@@ -2,7 +2,7 @@
 ghost use Rattle.std.specs.Prelude.{◌≡◌, ◌<◌, length, position};
 ghost use Rattle.commands.specs.Pieces.{is_mark, before, after};
 
-// Where a piece of text ends.
+// Where a piece of text ends. Not a closure: contracts name the mark, and of a closure each would have to say what it does.
 #[derive(Clone, Copy)]
 pub enum Mark {
     NewLine,

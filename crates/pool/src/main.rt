@@ -13,6 +13,13 @@ use std::io::Read;
 use std::str::from_utf8;
 use std::{env, fs};
 
+// What a script has chosen so far, and the memory for its checks.
+#[derive(Drop)]
+struct Session {
+    desk: Desk,
+    workspace: Workspace,
+}
+
 // Why a check has no answer: something is wrong with its line, or memory ran out.
 enum Failure {
     Problem(Problem),
@@ -57,50 +64,44 @@ fn program_file(rt: &HostRuntime, command: FileCommand<'_>) -> Result<Vec<u8>, F
     Ok(file)
 }
 
-// The answer to the check that a line asks for, or nothing where it asks for none.
-fn check(
-    rt: &HostRuntime,
-    desk: &Desk,
-    workspace: &mut Workspace,
-    line: &[u8],
-) -> Result<Option<Answer>, Failure> {
-    let Some(command) = read_file_command(line)? else {
-        return Ok(None);
-    };
-    let file = program_file(rt, command)?;
-    Ok(Some(desk.check(workspace, file.as_slice())))
-}
-
-// Prints what a line is answered, where it holds a command, or what is wrong with it.
-fn reply(
-    rt: &HostRuntime,
-    desk: &mut Desk,
-    workspace: &mut Workspace,
-    line: Line<'_>,
-) -> anyhow::Result<()> {
-    let answer = match check(rt, desk, workspace, line.bytes) {
-        Ok(None) => desk.respond(line),
-        Ok(answer) => Ok(answer),
-        Err(Failure::Problem(problem)) => Err(LineError {
-            line: line.number,
-            problem,
-        }),
-        Err(Failure::Memory(error)) => return Err(error.into()),
-    };
-    match answer {
-        Ok(None) => {}
-        Ok(Some(answer)) => println!(rt; "{answer}")?,
-        Err(error) => println!(rt; "{error}")?,
+impl Session {
+    // The answer to the check that a line asks for, or nothing where it asks for none.
+    fn check(&mut self, rt: &HostRuntime, line: &[u8]) -> Result<Option<Answer>, Failure> {
+        let Some(command) = read_file_command(line)? else {
+            return Ok(None);
+        };
+        let file = program_file(rt, command)?;
+        Ok(Some(self.desk.check(&mut self.workspace, file.as_slice())))
     }
-    Ok(())
+
+    // Prints what a line is answered, where it holds a command, or what is wrong with it.
+    fn reply(&mut self, rt: &HostRuntime, line: Line<'_>) -> anyhow::Result<()> {
+        let answer = match self.check(rt, line.bytes) {
+            Ok(None) => self.desk.respond(line),
+            Ok(answer) => Ok(answer),
+            Err(Failure::Problem(problem)) => Err(LineError {
+                line: line.number,
+                problem,
+            }),
+            Err(Failure::Memory(error)) => return Err(error.into()),
+        };
+        match answer {
+            Ok(None) => {}
+            Ok(Some(answer)) => println!(rt; "{answer}")?,
+            Err(error) => println!(rt; "{error}")?,
+        }
+        Ok(())
+    }
 }
 
 fn main(rt: HostRuntime) -> anyhow::Result<()> {
     let script = script(&rt)?;
-    let mut desk = Desk::new();
-    let mut workspace = Workspace::reserve(rt.alloc())?;
+    let mut session = Session {
+        desk: Desk::new(),
+        workspace: Workspace::reserve(rt.alloc())?,
+    };
     for line in Lines::of(script.as_slice()) {
-        reply(&rt, &mut desk, &mut workspace, line)?;
+        session.reply(&rt, line)?;
     }
     Ok(())
 }

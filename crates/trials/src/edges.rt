@@ -1,4 +1,7 @@
 // What each operator gives on words at the edges of the data types.
+use words::types::DataType;
+
+pub const DATA_TYPES: [DataType; 3] = [DataType::Bool, DataType::Int, DataType::Unsigned];
 
 // The greatest int.
 const MOST: u32 = 0x7fff_ffff;

@@ -1,5 +1,5 @@
 // Trials of the two holdings: an operator on words put in, once taken out, gives the word of the plain operator.
-use crate::edges::EDGES;
+use crate::edges::{DATA_TYPES, EDGES};
 use holding::interface::Holding;
 use holding::open::OpenHolding;
 use holding::shares::Counts;
@@ -7,8 +7,6 @@ use holding::split::SplitHolding;
 use std::process::Abort;
 use words::operators;
 use words::types::{Arithmetic, Comparison, DataType};
-
-const DATA_TYPES: [DataType; 3] = [DataType::Bool, DataType::Int, DataType::Unsigned];
 
 const ARITHMETIC: [Arithmetic; 5] = [
     Arithmetic::Add,

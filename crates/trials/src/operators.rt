@@ -1,54 +1,51 @@
 // Trials of the operators on plain words. A bool is computed and compared as an unsigned word.
 use crate::edges;
-use crate::edges::{EDGES, Table};
+use crate::edges::{DATA_TYPES, EDGES, Table};
 use std::process::Abort;
 use words::operators;
 use words::types::{Arithmetic, Comparison, DataType};
 
-// Every two edges give the word in the table.
-fn try_arithmetic(rt: &impl Abort, operator: Arithmetic, data_type: DataType, table: &Table) {
-    for (a, row) in EDGES.iter().zip(table) {
-        for (b, word) in EDGES.iter().zip(row) {
-            assert_eq!(rt; operator.apply_held(data_type, *a, *b), *word);
-        }
+// Every edge gives the word in the row.
+fn try_one<F: Fn(u32) -> u32>(rt: &impl Abort, operator: F, row: &[u32; 7])
+    requires { F.IsAlwaysCallable operator }
+{
+    for (a, word) in EDGES.iter().zip(row) {
+        assert_eq!(rt; operator(*a), *word);
     }
 }
 
-fn try_comparison(rt: &impl Abort, operator: Comparison, data_type: DataType, table: &Table) {
+// Every two edges give the word in the table.
+fn try_two<F: Fn(u32, u32) -> u32>(rt: &impl Abort, operator: F, table: &Table)
+    requires { F.IsAlwaysCallable operator }
+{
     for (a, row) in EDGES.iter().zip(table) {
-        for (b, word) in EDGES.iter().zip(row) {
-            assert_eq!(rt; operator.apply(data_type, *a, *b), *word);
-        }
+        try_one(rt, |b| operator(*a, b), row);
     }
+}
+
+fn try_arithmetic(rt: &impl Abort, operator: Arithmetic, data_type: DataType, table: &Table) {
+    try_two(rt, |a, b| operator.apply_held(data_type, a, b), table);
+}
+
+fn try_comparison(rt: &impl Abort, operator: Comparison, data_type: DataType, table: &Table) {
+    try_two(rt, |a, b| operator.apply(data_type, a, b), table);
 }
 
 #[test]
 fn minus_and_not(rt: HostRuntime) {
-    for (a, word) in EDGES.iter().zip(edges::OPPOSITES) {
-        assert_eq!(rt; operators::minus(*a), word);
-    }
-    for (a, word) in EDGES.iter().zip(edges::NEGATIONS) {
-        assert_eq!(rt; operators::not(*a), word);
-    }
+    try_one(&rt, operators::minus, &edges::OPPOSITES);
+    try_one(&rt, operators::not, &edges::NEGATIONS);
 }
 
 #[test]
 fn and_and_or(rt: HostRuntime) {
-    for (a, row) in EDGES.iter().zip(edges::BOTH) {
-        for (b, word) in EDGES.iter().zip(row) {
-            assert_eq!(rt; operators::and(*a, *b), word);
-        }
-    }
-    for (a, row) in EDGES.iter().zip(edges::EITHER) {
-        for (b, word) in EDGES.iter().zip(row) {
-            assert_eq!(rt; operators::or(*a, *b), word);
-        }
-    }
+    try_two(&rt, operators::and, &edges::BOTH);
+    try_two(&rt, operators::or, &edges::EITHER);
 }
 
 #[test]
 fn sums_differences_and_products(rt: HostRuntime) {
-    for data_type in [DataType::Bool, DataType::Int, DataType::Unsigned] {
+    for data_type in DATA_TYPES {
         try_arithmetic(&rt, Arithmetic::Add, data_type, &edges::SUMS);
         try_arithmetic(&rt, Arithmetic::Subtract, data_type, &edges::DIFFERENCES);
         try_arithmetic(&rt, Arithmetic::Multiply, data_type, &edges::PRODUCTS);
@@ -87,7 +84,7 @@ fn quotients_and_remainders(rt: HostRuntime) {
 
 #[test]
 fn none_by_zero(rt: HostRuntime) {
-    for data_type in [DataType::Bool, DataType::Int, DataType::Unsigned] {
+    for data_type in DATA_TYPES {
         for a in EDGES {
             assert_eq!(rt; Arithmetic::Divide.apply(data_type, a, 0), None);
             assert_eq!(rt; Arithmetic::Remainder.apply(data_type, a, 0), None);

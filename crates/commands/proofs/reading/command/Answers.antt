@@ -18,8 +18,18 @@ returns-in_ok-from-in-flows c =
     let name : c.args.name.now ≡ codes "flows" = text_from_reads _ (codes "flows") (omega arith) (search rules) in
     rw name (search rules)
 
+pub returns-in_err-from-in-flows : goal.returns-in_err-from-in-flows
+returns-in_err-from-in-flows c =
+    let name : c.args.name.now ≡ codes "flows" = text_from_reads _ (codes "flows") (omega arith) (search rules) in
+    rw name (search rules)
+
 pub returns-in_ok-one-in-joint : goal.returns-in_ok-one-in-joint
 returns-in_ok-one-in-joint c =
+    let name : c.args.name.now ≡ codes "joint" = text_from_reads _ (codes "joint") (omega arith) (search rules) in
+    rw name (search rules)
+
+pub returns-in_err-one-in-joint : goal.returns-in_err-one-in-joint
+returns-in_err-one-in-joint c =
     let name : c.args.name.now ≡ codes "joint" = text_from_reads _ (codes "joint") (omega arith) (search rules) in
     rw name (search rules)
 
