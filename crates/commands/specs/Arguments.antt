@@ -1,6 +1,6 @@
 -- The arguments of a command: the fields after its name. Assumes nothing.
 use Rattle.std.specs.Prelude.{◌≡◌, ℕ, cond, List, [], ◌∷◌, length, Ok, Err, Result, MatchResult, ◌==◌, ◌≢◌, slice_index_or}
-use denote.Ref.{Bor}
+use Rattle.std.specs.Borrow.{Bor}
 use Rattle.std.specs.Option.{ok_or}
 use Rattle.commands.specs.declared.types.Problem.{Problem}
 use Rattle.commands.specs.declared.types.Problem.TheVariants.{ArgumentCount, NoWord, NoInt}

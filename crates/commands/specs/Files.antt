@@ -2,14 +2,18 @@
 use Rattle.std.specs.Prelude.{ℕ, ◌+◌, ◌-◌, ◌*◌, cond, ◌&&◌, List, [], ◌∷◌, Some, None, Ok, Err, codes, Option, Result, nat_le}
 use Rattle.std.specs.Str.{bytes_eq}
 use Rattle.commands.specs.declared.types.FileCommand.{FileCommand}
+use Rattle.commands.specs.declared.types.FileCommand.TheVariants.{Digits, Path}
 use Rattle.commands.specs.declared.types.Problem.{Problem}
-use Rattle.commands.specs.declared.types.Source.{Source}
-use Rattle.commands.specs.declared.types.Source.TheVariants.{Digits, Path}
 use Rattle.commands.specs.Arguments.{one_argument}
 use Rattle.commands.specs.Pieces.{uncommented, fields}
 
+-- where the bytes of a program file stand
+pub data Source : Type 0 where
+  digits : Source
+  path : Source
+
 abbrev pub source_named : List ℕ → Option Source
-source_named name = cond (bytes_eq name (codes "check")) (Some Digits) (cond (bytes_eq name (codes "check-file")) (Some Path) None)
+source_named name = cond (bytes_eq name (codes "check")) (Some digits) (cond (bytes_eq name (codes "check-file")) (Some path) None)
 
 abbrev pub file_command_by : Option Source → List (List ℕ) → Result (Option (Source × List ℕ)) Problem
 file_command_by None arguments = Ok None
@@ -26,7 +30,8 @@ file_command_of line = file_command_in (fields (uncommented line))
 -- a command as its source and its text
 abbrev pub shown_command : Result (Option FileCommand) Problem → Result (Option (Source × List ℕ)) Problem
 shown_command (Ok None) = Ok None
-shown_command (Ok (Some c)) = Ok (Some (c.source, c.text.now))
+shown_command (Ok (Some (Digits text))) = Ok (Some (digits, text.now))
+shown_command (Ok (Some (Path text))) = Ok (Some (path, text.now))
 shown_command (Err e) = Err e
 
 -- the number of a hexadecimal digit: 0 to 9, a to f, A to F

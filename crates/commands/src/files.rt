@@ -1,26 +1,23 @@
 // The commands that check a program file, and the bytes that hexadecimal digits write.
 ghost use Rattle.std.specs.Prelude.{◌≡◌, ◌<◌, IfSome, IfOk, vec_items};
-ghost use Rattle.std.specs.Option.{option_map, ok_or};
-ghost use Rattle.commands.specs.declared.types.Problem.TheVariants.{UnknownCommand};
-ghost use Rattle.commands.specs.Files.{source_named, file_command_of, shown_command, digit_in, byte_of, bytes_of};
+ghost use Rattle.std.specs.Option.{option_map};
+ghost use Rattle.commands.specs.Pieces.{fields};
+ghost use Rattle.commands.specs.Files.{source_named, file_command_by, file_command_of, shown_command, digit_in, byte_of, bytes_of};
 
 use crate::arguments::one_argument;
 use crate::cutting::{Mark, cut};
 use crate::fields::Fields;
-use crate::types::{FileCommand, Problem, Source};
+use crate::types::{FileCommand, Problem};
 use std::alloc::{AllocError, Global};
 
-impl TryFrom<&[u8]> for Source {
-    type Error = Problem;
-
-    ghost try_from_gives = { λ name r. r ≡ ok_or (source_named name.now) UnknownCommand };
-
-    fn try_from(name: &[u8]) -> Result<Source, Problem> {
-        match name {
-            b"check" => Ok(Source::Digits),
-            b"check-file" => Ok(Source::Path),
-            _ => Err(Problem::UnknownCommand),
-        }
+// The command of a name, if it is one that checks a program file.
+fn file_command<'a>(name: &[u8], arguments: Fields<'a>) -> Result<Option<FileCommand<'a>>, Problem>
+    ensures { shown_command result ≡ file_command_by (source_named name.now) (fields arguments.entry.rest.now) }
+{
+    match name {
+        b"check" => Ok(Some(FileCommand::Digits(one_argument(arguments, 1)?))),
+        b"check-file" => Ok(Some(FileCommand::Path(one_argument(arguments, 1)?))),
+        _ => Ok(None),
     }
 }
 
@@ -30,11 +27,10 @@ pub fn read_file_command(line: &[u8]) -> Result<Option<FileCommand<'_>>, Problem
 {
     let (text, _) = cut(line, Mark::Hash);
     let mut fields = Fields::of(text);
-    let Some(Ok(source)) = fields.next().map(Source::try_from) else {
-        return Ok(None);
-    };
-    let text = one_argument(fields, 1)?;
-    Ok(Some(FileCommand { source, text }))
+    match fields.next() {
+        None => Ok(None),
+        Some(name) => file_command(name, fields),
+    }
 }
 
 fn digit(byte: u8) -> Option<u8>

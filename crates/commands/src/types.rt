@@ -24,18 +24,11 @@ pub enum Command {
     Amend { weight: u32, correction: u32 },
 }
 
-// Where the bytes of a program file stand: as hexadecimal digits in the script, or in a file.
+// A command that checks a program file: its bytes stand as hexadecimal digits in the script, or in the file of a path.
 #[derive(Clone, Copy)]
-pub enum Source {
-    Digits,
-    Path,
-}
-
-// A command that checks a program file, with the digits or the path.
-#[derive(Clone, Copy)]
-pub struct FileCommand<'a> {
-    pub source: Source,
-    pub text: &'a [u8],
+pub enum FileCommand<'a> {
+    Digits(&'a [u8]),
+    Path(&'a [u8]),
 }
 
 // An argument is numbered from 1: the field after the command's name.

@@ -5,7 +5,7 @@ use anyhow::anyhow;
 use checker::verdict::Workspace;
 use commands::files::{decode_digits, read_file_command};
 use commands::lines::{Line, Lines};
-use commands::types::{FileCommand, Problem, Source};
+use commands::types::{FileCommand, Problem};
 use script::answers::{Answer, LineError};
 use script::desk::Desk;
 use std::alloc::AllocError;
@@ -54,9 +54,9 @@ fn script(rt: &HostRuntime) -> anyhow::Result<Vec<u8>> {
 
 // The bytes of the file that a command names.
 fn program_file(rt: &HostRuntime, command: FileCommand<'_>) -> Result<Vec<u8>, Failure> {
-    let file = match command.source {
-        Source::Digits => decode_digits(rt.alloc(), command.text)?.ok_or(Problem::NoDigits)?,
-        Source::Path => from_utf8(command.text)
+    let file = match command {
+        FileCommand::Digits(text) => decode_digits(rt.alloc(), text)?.ok_or(Problem::NoDigits)?,
+        FileCommand::Path(path) => from_utf8(path)
             .ok()
             .and_then(|path| fs::read(rt, path).ok())
             .ok_or(Problem::Unreadable)?,
