@@ -3,6 +3,7 @@ ghost use Rattle.std.specs.Prelude.{◌≡◌, ◌<◌, ◌≤◌, ◌||◌, [],
 ghost use Rattle.program.specs.Program.{children, optional};
 ghost use Rattle.typing.specs.Faults.{name_fault};
 ghost use Rattle.typing.specs.First.{first};
+ghost use Rattle.tables.specs.View.{view};
 ghost use Rattle.tables.specs.declared.tables.Naming.TheVariants.{Never};
 ghost use Rattle.checker.specs.Names.{more, is_once, marked_all, marked_by, count_fault};
 ghost use Rattle.checker.specs.Records.{checked, is_body_of};
@@ -89,9 +90,7 @@ pub(crate) fn check_names(tables: &mut Tables) -> Result<(), Refusal>
     requires room { length tables.old.nodes.items ≤ 1024 }
     requires empty { tables.old.names.items ≡ [] }
     ensures value { result ≡ checked tt (first (name_fault tables.old.procedures.items tables.old.nodes.items) (length tables.old.nodes.items)) }
-    ensures variables { tables.new.variables ≡ tables.old.variables }
-    ensures procedures { tables.new.procedures ≡ tables.old.procedures }
-    ensures nodes { tables.new.nodes ≡ tables.old.nodes }
+    ensures same { view tables.new ≡ view tables.old }
 {
     name_none(&mut tables.names, &tables.nodes);
     mark_names(&mut tables.names, &tables.nodes);
