@@ -2,3 +2,4 @@
 pub mod Operators
 pub mod Records
 pub mod Names
+pub mod Arguments

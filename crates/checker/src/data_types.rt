@@ -8,7 +8,6 @@ use crate::operators::{arithmetic_takes, comparison_takes};
 use crate::site::Site;
 use levels::Levels;
 use program::records::Node;
-use typing::rows::ArgumentTest;
 use words::types::{Arithmetic, Comparison, DataType};
 
 // Whether both data types are there and are the same.
@@ -68,9 +67,11 @@ impl<L: Levels> Site<'_, L> {
                 tables.variable_type(variable as usize),
             ),
             Node::Call { procedure, first } => self.call_fits(
-                ArgumentTest::DataType,
                 procedure,
                 first,
+                |parameter, value| {
+                    same_type(tables.data_type(value), tables.variable_type(parameter))
+                },
             ),
             Node::Release { operand } | Node::Output { operand } => tables
                 .data_type(operand)

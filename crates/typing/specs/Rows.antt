@@ -21,8 +21,6 @@ use Rattle.typing.specs.declared.classes.Exits.{Exits}
 use Rattle.typing.specs.declared.classes.Class.{Class}
 use Rattle.typing.specs.declared.classes.Class.TheVariants.{Value, Argument, Statement}
 use Rattle.typing.specs.declared.classes.TypedNode.{TypedNode}
-use Rattle.typing.specs.declared.rows.ArgumentTest.{ArgumentTest}
-use Rattle.typing.specs.declared.rows.ArgumentTest.TheVariants.{Number, DataType as Types, Level as Levels}
 
 -- ---- row 11: each child is below 1024, below its parent, of the parent's procedure and of the class that the parent asks
 
@@ -151,6 +149,12 @@ scope_fits e q (Definition v) = definable q (variable_at e v)
 scope_fits e q (Output a) = true
 
 -- ---- arguments: rows 13, 14 and 15 test them at their call
+
+-- what is tested of the arguments of a call: their number, their data types or their levels
+pub data ArgumentTest : Type 0 where
+  Number : ArgumentTest
+  Types : ArgumentTest
+  Levels : ArgumentTest
 
 -- two data types that are there and the same
 abbrev pub agree : Option DataType → Option DataType → Bool
