@@ -2,6 +2,7 @@
 ghost use Rattle.std.specs.Prelude.{◌≡◌, IfOk, OnOk};
 ghost use Rattle.typing.specs.Faults.{environment, file_variables, file_procedures, file_nodes, records_fault, verdict_of};
 ghost use Rattle.tables.specs.View.{view, Empty};
+ghost use Rattle.checker.specs.Files.{variables_of, procedures_of, nodes_of};
 ghost use Rattle.checker.specs.Records.{checked};
 
 use crate::names::check_names;
@@ -17,7 +18,7 @@ use tables::tables::Tables;
 fn check_records<L: Levels>(levels: &L, tables: &mut Tables, parts: &Parts) -> Result<(), Refusal>
     requires { Empty tables.old }
     ensures value { result ≡ checked tt (records_fault L.Levels.rules parts.now.layout parts.now.file.now) }
-    ensures filled { OnOk result (view tables.new ≡ environment (file_variables parts.now.layout parts.now.file.now) (file_procedures parts.now.layout parts.now.file.now) (file_nodes L.Levels.rules parts.now.layout parts.now.file.now)) }
+    ensures filled { OnOk result (view tables.new ≡ environment (variables_of parts.now) (procedures_of parts.now) (nodes_of L.Levels.rules parts.now)) }
 {
     check_variables(levels, tables, parts)?;
     check_procedures(levels, tables, parts)?;

@@ -2,9 +2,10 @@
 ghost use Rattle.std.specs.Prelude.{◌≡◌, [], OnOk};
 ghost use Rattle.program.specs.Decode.{node_decoded};
 ghost use Rattle.program.specs.Program.{no_node};
-ghost use Rattle.typing.specs.Faults.{known, typed_node, record_fault, node_fault, file_variables, file_procedures, file_nodes};
+ghost use Rattle.typing.specs.Faults.{known, typed_node, record_fault};
 ghost use Rattle.typing.specs.First.{first};
 ghost use Rattle.tables.specs.View.{view};
+ghost use Rattle.checker.specs.Files.{variables_of, procedures_of, nodes_of, fault_of_node};
 ghost use Rattle.checker.specs.Records.{checked, Holds};
 
 use crate::bodies::next_procedure;
@@ -36,9 +37,9 @@ pub(crate) fn check_nodes<L: Levels>(
     tables: &mut Tables,
     parts: &Parts,
 ) -> Result<(), Refusal>
-    requires { Holds tables.old (file_variables parts.now.layout parts.now.file.now) (file_procedures parts.now.layout parts.now.file.now) [] }
-    ensures value { result ≡ checked tt (first (node_fault L.Levels.rules (file_variables parts.now.layout parts.now.file.now) (file_procedures parts.now.layout parts.now.file.now) parts.now.file.now) parts.now.layout.nodes) }
-    ensures filled { OnOk result (Holds tables.new (file_variables parts.now.layout parts.now.file.now) (file_procedures parts.now.layout parts.now.file.now) (file_nodes L.Levels.rules parts.now.layout parts.now.file.now)) }
+    requires { Holds tables.old (variables_of parts.now) (procedures_of parts.now) [] }
+    ensures value { result ≡ checked tt (first (fault_of_node L.Levels.rules parts.now) parts.now.layout.nodes) }
+    ensures filled { OnOk result (Holds tables.new (variables_of parts.now) (procedures_of parts.now) (nodes_of L.Levels.rules parts.now)) }
 {
     let mut procedure = 0;
     for (place, fields) in parts.nodes().enumerate() {

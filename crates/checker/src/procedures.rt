@@ -3,8 +3,9 @@ ghost use Rattle.std.specs.Prelude.{◌≡◌, ◌+◌, ◌&&◌, [], length, So
 ghost use Rattle.program.specs.Decode.{procedure_decoded};
 ghost use Rattle.program.specs.Program.{no_procedure};
 ghost use Rattle.program.specs.declared.refusal.Refusal.TheVariants.{Result as BadResult};
-ghost use Rattle.typing.specs.Faults.{known, result_fits, is_parameter_of, same_truth, owned_at, all_below, parameters_fit, rises, body_stands, main_fits, procedure_rows, procedure_fault, procedure_part, file_variables, file_procedures};
+ghost use Rattle.typing.specs.Faults.{known, result_fits, is_parameter_of, same_truth, owned_at, all_below, parameters_fit, rises, body_stands, main_fits, procedure_rows};
 ghost use Rattle.typing.specs.First.{or_else, unless, first};
+ghost use Rattle.checker.specs.Files.{variables_of, procedures_of, fault_of_procedure};
 ghost use Rattle.checker.specs.Records.{checked, Holds};
 
 use crate::records::Parts;
@@ -110,9 +111,9 @@ pub(crate) fn check_procedures<L: Levels>(
     tables: &mut Tables,
     parts: &Parts,
 ) -> Result<(), Refusal>
-    requires { Holds tables.old (file_variables parts.now.layout parts.now.file.now) [] [] }
-    ensures value { result ≡ checked tt (first (procedure_fault L.Levels.rules parts.now.file.now parts.now.layout.nodes parts.now.layout.procedures (file_variables parts.now.layout parts.now.file.now) (procedure_part parts.now.layout parts.now.file.now)) parts.now.layout.procedures) }
-    ensures filled { OnOk result (Holds tables.new (file_variables parts.now.layout parts.now.file.now) (file_procedures parts.now.layout parts.now.file.now) []) }
+    requires { Holds tables.old (variables_of parts.now) [] [] }
+    ensures value { result ≡ checked tt (first (fault_of_procedure L.Levels.rules parts.now) parts.now.layout.procedures) }
+    ensures filled { OnOk result (Holds tables.new (variables_of parts.now) (procedures_of parts.now) []) }
 {
     for (place, fields) in parts.procedures().enumerate() {
         let procedure = check_procedure(levels, tables, parts, place as u16, fields)?;

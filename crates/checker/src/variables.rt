@@ -3,9 +3,10 @@ ghost use Rattle.std.specs.Prelude.{◌≡◌, [], Some, OnOk};
 ghost use Rattle.program.specs.Decode.{variable_decoded};
 ghost use Rattle.program.specs.Program.{no_variable};
 ghost use Rattle.program.specs.declared.refusal.Refusal.TheVariants.{Variable as BadVariable};
-ghost use Rattle.typing.specs.Faults.{known, variable_fits, variable_fault, variable_part, file_variables};
+ghost use Rattle.typing.specs.Faults.{known, variable_fits};
 ghost use Rattle.typing.specs.First.{unless, first};
 ghost use Rattle.tables.specs.View.{Empty};
+ghost use Rattle.checker.specs.Files.{variables_of, fault_of_variable};
 ghost use Rattle.checker.specs.Records.{checked, Holds};
 
 use crate::records::Parts;
@@ -46,8 +47,8 @@ pub(crate) fn check_variables<L: Levels>(
     parts: &Parts,
 ) -> Result<(), Refusal>
     requires { Empty tables.old }
-    ensures value { result ≡ checked tt (first (variable_fault L.Levels.rules parts.now.layout.procedures (variable_part parts.now.layout parts.now.file.now)) parts.now.layout.variables) }
-    ensures filled { OnOk result (Holds tables.new (file_variables parts.now.layout parts.now.file.now) [] []) }
+    ensures value { result ≡ checked tt (first (fault_of_variable L.Levels.rules parts.now) parts.now.layout.variables) }
+    ensures filled { OnOk result (Holds tables.new (variables_of parts.now) [] []) }
 {
     let procedures = parts.layout.procedures;
     for (place, fields) in parts.variables().enumerate() {

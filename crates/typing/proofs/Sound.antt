@@ -142,9 +142,9 @@ module _ (r : Rules) (p : Program) where
 
   -- ---- one node, above nodes that have derivations
 
-  module _ (n : ℕ) (lower-derive : (m : ℕ) → m < n → Derives (home p m) m (typed r p m).class) where
+  module _ (n : ℕ) (lower_derive : (m : ℕ) → m < n → Derives (home p m) m (typed r p m).class) where
     derive_in : (q m : ℕ) → m < n → home p m ≡ q → Derives q m (typed r p m).class
-    derive_in q m lt e = subst (λ (o : ℕ). Derives o m (typed r p m).class) e (lower-derive m lt)
+    derive_in q m lt e = subst (λ (o : ℕ). Derives o m (typed r p m).class) e (lower_derive m lt)
 
     operand_of : (q m : ℕ) (t : DataType) → m < n → home p m ≡ q → type_of (below r p n) m ≡ Some t → Expression r p q m t (level_of (below r p n) m)
     operand_of q m t lt e h =
