@@ -5,9 +5,8 @@ use Rattle.program.specs.Program.{no_node}
 use Rattle.program.specs.declared.records.Procedure.{Procedure}
 use Rattle.typing.specs.Environment.{procedure_of}
 use Rattle.typing.specs.Faults.{known, environment, file_variables, file_procedures, node_record, typed_node, typed_nodes, node_fault}
-use Rattle.typing.specs.First.{first}
 use Rattle.typing.proofs.Rising.{first_none, table_none, length_table, drop_record}
-use Rattle.checker.specs.Records.{checked, is_body_of}
+use Rattle.checker.specs.Records.{is_body_of}
 use Rattle.checker.proofs.Answered.{stops, goes_on, grows}
 use Rattle.checker.proofs.Running.{procedure_none, procedure_more, procedure_below}
 use Rattle.checker.proofs.Taken.{node_fault_taken, typed_node_taken}
@@ -26,9 +25,6 @@ loop-place-init g c =
       record { variables = c.requires.variables; procedures = c.requires.procedures; nodes = c.requires.nodes ∙ sym (table_none _); names = c.requires.names },
       procedure_none _,
     )
-
-pub overflow_cast-place : goal.overflow_cast-place
-overflow_cast-place g c = omega (arith, c.in-Some.ensures.steps, c.loop-place.invariant.1, c.args.parts.now.covers.few_nodes)
 
 pub push_reserved-requires : goal.push_reserved-requires
 push_reserved-requires g c =
@@ -95,17 +91,3 @@ loop-place-preserved g c =
           ∙ ap (λ (xs : List Procedure). cond (is_body_of xs c.loop-place.procedure i) (suc c.loop-place.procedure) c.loop-place.procedure) held.procedures
           ∙ procedure_more ds i _ c.loop-place.invariant.4,
     )
-
-pub returns : goal.returns
-returns g c =
-    let r = g.L.Levels.rules in
-    let bs = c.args.parts.now.file.now in
-    let l = c.args.parts.now.layout in
-    let vs = file_variables l bs in
-    let ds = file_procedures l bs in
-    let held = c.loop-place.invariant.3 in
-    let whole : l.nodes ≡ c.loop-place.place-iterator.count = omega (arith, c.in-None.ensures.steps, c.loop-place.invariant.1) in
-    record {
-      value = sym (ap (checked tt) (ap (first (node_fault r vs ds bs)) whole ∙ c.loop-place.invariant.2));
-      filled = record { variables = held.variables; procedures = held.procedures; nodes = held.nodes ∙ ap (typed_nodes r vs ds bs) (sym whole); names = held.names };
-    }

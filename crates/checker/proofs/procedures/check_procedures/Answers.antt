@@ -2,10 +2,8 @@
 use Rattle.std.proofs.Common.{◌≡◌, ◌<◌, length, drop, sym, refl, ap, ◌∙◌, add-zero, arith}
 use Rattle.std.proofs.lemmas.Result.{err_from_is_err_and}
 use Rattle.program.specs.Program.{no_procedure}
-use Rattle.typing.specs.Faults.{known, file_variables, procedure_part, procedure_record, procedures_in, procedure_fault}
-use Rattle.typing.specs.First.{first}
+use Rattle.typing.specs.Faults.{known, file_variables, procedure_part, procedure_record, procedure_fault}
 use Rattle.typing.proofs.Rising.{first_none, table_none, length_table, drop_record}
-use Rattle.checker.specs.Records.{checked}
 use Rattle.checker.proofs.Answered.{stops, goes_on, grows}
 use Rattle.checker.proofs.Taken.{procedure_taken, procedure_fault_taken}
 use Rattle.checker.proofs.procedures.check_procedures.Goals as goal
@@ -21,10 +19,6 @@ loop-place-init g c =
       first_none _,
       record { variables = c.requires.variables; procedures = c.requires.procedures ∙ sym (table_none _); nodes = c.requires.nodes; names = c.requires.names },
     )
-
-pub overflow_cast-place : goal.overflow_cast-place
-overflow_cast-place g c =
-    omega (arith, c.in-Some.ensures.steps, c.loop-place.invariant.1, c.args.parts.now.covers.few_procedures)
 
 pub push_reserved-requires : goal.push_reserved-requires
 push_reserved-requires g c =
@@ -77,16 +71,3 @@ loop-place-preserved g c =
         names = c.loop-place.invariant.3.names;
       },
     )
-
-pub returns : goal.returns
-returns g c =
-    let bs = c.args.parts.now.file.now in
-    let l = c.args.parts.now.layout in
-    let part = procedure_part l bs in
-    let f = procedure_fault g.L.Levels.rules bs l.nodes l.procedures (file_variables l bs) part in
-    let held = c.loop-place.invariant.3 in
-    let whole : l.procedures ≡ c.loop-place.place-iterator.count = omega (arith, c.in-None.ensures.steps, c.loop-place.invariant.1) in
-    record {
-      value = sym (ap (checked tt) (ap (first f) whole ∙ c.loop-place.invariant.2));
-      filled = record { variables = held.variables; procedures = held.procedures ∙ ap (procedures_in part) (sym whole); nodes = held.nodes; names = held.names };
-    }

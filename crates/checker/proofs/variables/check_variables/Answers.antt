@@ -4,7 +4,6 @@ use Rattle.std.proofs.lemmas.Result.{err_from_is_err_and}
 use Rattle.program.specs.Program.{no_variable}
 use Rattle.typing.specs.Faults.{known, variable_part, variable_record, variable_fault}
 use Rattle.typing.proofs.Rising.{first_none, table_none, length_table, drop_record}
-use Rattle.checker.specs.Records.{checked}
 use Rattle.checker.proofs.Answered.{stops, goes_on, grows}
 use Rattle.checker.proofs.Taken.{variable_taken, variable_fault_taken}
 use Rattle.checker.proofs.variables.check_variables.Goals as goal
@@ -64,10 +63,3 @@ loop-place-preserved g c =
         names = c.loop-place.invariant.3.names;
       },
     )
-
-pub returns : goal.returns
-returns g c =
-    let part = variable_part c.args.parts.now.layout c.args.parts.now.file.now in
-    let f = variable_fault g.L.Levels.rules c.args.parts.now.layout.procedures part in
-    let whole : c.args.parts.now.layout.variables ≡ c.loop-place.place-iterator.count = omega (arith, c.in-None.ensures.steps, c.loop-place.invariant.1) in
-    rw whole record { value = sym (ap (checked tt) c.loop-place.invariant.2); filled = c.loop-place.invariant.3 }
