@@ -1,14 +1,14 @@
 // Row 14: data types.
-ghost use Rattle.std.specs.Prelude.{◌≡◌, ◌&&◌};
-ghost use Rattle.typing.specs.Environment.{variable_at, procedure_at, type_of};
-ghost use Rattle.typing.specs.Rows.{agree, arithmetic_takes, comparison_takes, is_bool, is_void, variable_type, types_fit};
+ghost use Rattle.std.specs.Prelude.{◌≡◌};
+ghost use Rattle.typing.specs.Environment.{procedure_at, type_of};
+ghost use Rattle.typing.specs.Rows.{agree, is_bool, is_void, types_fit};
 ghost use Rattle.tables.specs.View.{view};
 
 use crate::operators::{arithmetic_takes, comparison_takes};
 use crate::site::Site;
 use levels::Levels;
 use program::records::Node;
-use words::types::{Arithmetic, Comparison, DataType};
+use words::types::DataType;
 
 // Whether both data types are there and are the same.
 pub(crate) fn same_type(one: Option<DataType>, other: Option<DataType>) -> bool

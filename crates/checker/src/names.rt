@@ -1,5 +1,5 @@
 // Row 17: each node but a body is named as a child exactly once.
-ghost use Rattle.std.specs.Prelude.{◌≡◌, ◌<◌, ◌≤◌, ◌||◌, [], length, replicate, fold, vec_capacity};
+ghost use Rattle.std.specs.Prelude.{◌≡◌, ◌≤◌, ◌||◌, [], length, replicate, fold, vec_capacity};
 ghost use Rattle.program.specs.Program.{children, optional};
 ghost use Rattle.typing.specs.Faults.{name_fault};
 ghost use Rattle.typing.specs.First.{first};
@@ -31,6 +31,7 @@ fn mark(names: &mut [Naming], child: Option<u16>)
     let Some(child) = child else {
         return;
     };
+    // By a test of the index: what `get_mut` leaves in a slice is not known to a proof.
     let child = child as usize;
     if child < names.len() {
         names[child] = once_more(names[child]);
@@ -53,6 +54,7 @@ fn mark_names(names: &mut [Naming], nodes: &[TypedNode])
     }
 }
 
+// Makes an entry for each node. Entry by entry, since `resize` may ask for memory.
 fn name_none(names: &mut Vec<Naming>, nodes: &[TypedNode])
     requires room { (length nodes.now ≤ 1024) × (1024 ≤ vec_capacity names.old) }
     requires empty { names.old.items ≡ [] }

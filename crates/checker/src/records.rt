@@ -1,5 +1,5 @@
 // The parts of a file, and the records of each.
-ghost use Rattle.std.specs.Prelude.{◌≡◌, ◌+◌, ◌*◌, ◌<◌, ◌≤◌, length, drop, MatchOption};
+ghost use Rattle.std.specs.Prelude.{◌≡◌, ◌+◌, ◌*◌, ◌≤◌, length, drop, MatchOption};
 ghost use Rattle.std.specs.Iterator.{at_most};
 ghost use Rattle.program.specs.Layout.{Covers};
 ghost use Rattle.typing.specs.Faults.{variable_part, procedure_part};
@@ -8,7 +8,7 @@ use program::fields::{NodeFields, ProcedureFields, Record, VariableFields};
 use program::layout::Layout;
 use std::marker::PhantomData;
 
-// So many records, one after another.
+// So many records of a kind, one after another.
 #[derive(Drop)]
 pub(crate) struct Records<'a, R: Record> {
     left: &'a [u8],
@@ -35,7 +35,7 @@ impl<R: Record> Iterator for Records<'_, R> {
     }
 }
 
-// A file and its layout.
+// A file and its layout, by which all its records lie in it.
 #[derive(Clone, Copy)]
 pub(crate) struct Parts<'a> {
     pub(crate) file: &'a [u8],
