@@ -2,8 +2,7 @@
 use Rattle.std.proofs.Common.{◌≡◌, ℕ, suc, ◌+◌, ◌-◌, ◌<◌, ◌≤◌, true, false, Some, None, Option, add-suc, add-one, arith}
 use Rattle.levels.specs.Rules.{Rules}
 use Rattle.typing.specs.Environment.{Environment}
-use Rattle.typing.specs.Rows.{argument_at, argument_fits, arguments_fit, is_absent}
-use Rattle.typing.specs.declared.rows.ArgumentTest.{ArgumentTest}
+use Rattle.typing.specs.Rows.{argument_at, argument_fits, arguments_fit, is_absent, ArgumentTest}
 
 module _ (r : Rules) (e : Environment) (t : ArgumentTest) (m v i : ℕ) (k : Option ℕ) where
   pub arguments_end : m ≤ i → arguments_fit r e t (m - i) (v + i) k ≡ is_absent k

@@ -7,10 +7,10 @@ use tables::tables::Tables;
 pub(crate) fn is_body_of(tables: &Tables, procedure: u16, place: u16) -> bool
     ensures { result ≡ is_body_of tables.now.procedures.items procedure place }
 {
-    match tables.procedure(procedure) {
-        Some(procedure) => procedure.body == place,
-        None => place == 0,
-    }
+    tables
+        .procedure(procedure)
+        .map_or(0, |procedure| procedure.body)
+        == place
 }
 
 // The procedure of the node after the one at `place`, which belongs to `procedure`.

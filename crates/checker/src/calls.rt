@@ -6,7 +6,6 @@ ghost use Rattle.tables.specs.View.{view};
 use crate::site::Site;
 use levels::Levels;
 use program::records::Node;
-use typing::rows::ArgumentTest;
 
 impl<L: Levels> Site<'_, L> {
     pub(crate) fn calls_fit(&self, node: Node) -> bool
@@ -14,7 +13,7 @@ impl<L: Levels> Site<'_, L> {
     {
         match node {
             Node::Call { procedure, first } => procedure < self.procedure
-                && self.call_fits(ArgumentTest::Number, procedure, first),
+                && self.call_fits(procedure, first, |_, _| true),
             _ => true,
         }
     }

@@ -1,15 +1,14 @@
 // Row 14: data types.
-ghost use Rattle.std.specs.Prelude.{◌≡◌, ◌&&◌};
-ghost use Rattle.typing.specs.Environment.{variable_at, procedure_at, type_of};
-ghost use Rattle.typing.specs.Rows.{agree, arithmetic_takes, comparison_takes, is_bool, is_void, variable_type, types_fit};
+ghost use Rattle.std.specs.Prelude.{◌≡◌};
+ghost use Rattle.typing.specs.Environment.{procedure_at, type_of};
+ghost use Rattle.typing.specs.Rows.{agree, is_bool, is_void, types_fit};
 ghost use Rattle.tables.specs.View.{view};
 
 use crate::operators::{arithmetic_takes, comparison_takes};
 use crate::site::Site;
 use levels::Levels;
 use program::records::Node;
-use typing::rows::ArgumentTest;
-use words::types::{Arithmetic, Comparison, DataType};
+use words::types::DataType;
 
 // Whether both data types are there and are the same.
 pub(crate) fn same_type(one: Option<DataType>, other: Option<DataType>) -> bool
@@ -68,9 +67,11 @@ impl<L: Levels> Site<'_, L> {
                 tables.variable_type(variable as usize),
             ),
             Node::Call { procedure, first } => self.call_fits(
-                ArgumentTest::DataType,
                 procedure,
                 first,
+                |parameter, value| {
+                    same_type(tables.data_type(value), tables.variable_type(parameter))
+                },
             ),
             Node::Release { operand } | Node::Output { operand } => tables
                 .data_type(operand)

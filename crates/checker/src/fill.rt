@@ -1,48 +1,28 @@
 // The check of a whole file, into the tables.
-ghost use Rattle.std.specs.Prelude.{◌≡◌, length, IfOk, OnOk};
-ghost use Rattle.program.specs.Layout.{Covers};
+ghost use Rattle.std.specs.Prelude.{◌≡◌, IfOk, OnOk};
 ghost use Rattle.typing.specs.Faults.{environment, file_variables, file_procedures, file_nodes, records_fault, verdict_of};
 ghost use Rattle.tables.specs.View.{view, Empty};
+ghost use Rattle.checker.specs.Files.{variables_of, procedures_of, nodes_of};
 ghost use Rattle.checker.specs.Records.{checked};
 
 use crate::names::check_names;
 use crate::nodes::check_nodes;
 use crate::procedures::check_procedures;
+use crate::records::Parts;
 use crate::variables::check_variables;
 use levels::Levels;
 use program::layout::Layout;
 use program::refusal::Refusal;
 use tables::tables::Tables;
 
-fn check_records<L: Levels>(
-    levels: &L,
-    tables: &mut Tables,
-    file: &[u8],
-    layout: Layout,
-) -> Result<(), Refusal>
-    requires empty { Empty tables.old }
-    requires covers { Covers (length file.now) layout }
-    ensures value { result ≡ checked tt (records_fault L.Levels.rules layout file.now) }
-    ensures filled { OnOk result (view tables.new ≡ environment (file_variables layout file.now) (file_procedures layout file.now) (file_nodes L.Levels.rules layout file.now)) }
+fn check_records<L: Levels>(levels: &L, tables: &mut Tables, parts: &Parts) -> Result<(), Refusal>
+    requires { Empty tables.old }
+    ensures value { result ≡ checked tt (records_fault L.Levels.rules parts.now.layout parts.now.file.now) }
+    ensures filled { OnOk result (view tables.new ≡ environment (variables_of parts.now) (procedures_of parts.now) (nodes_of L.Levels.rules parts.now)) }
 {
-    let variables = &file[12 * layout.nodes..];
-    let procedures = &file[12 * layout.nodes + 8 * layout.variables..];
-    check_variables(
-        levels,
-        &mut tables.variables,
-        variables,
-        layout.variables,
-        layout.procedures,
-    )?;
-    check_procedures(
-        levels,
-        &mut tables.procedures,
-        &tables.variables,
-        file,
-        layout,
-        procedures,
-    )?;
-    check_nodes(levels, tables, file, layout.nodes)?;
+    check_variables(levels, tables, parts)?;
+    check_procedures(levels, tables, parts)?;
+    check_nodes(levels, tables, parts)?;
     check_names(tables)
 }
 
@@ -53,6 +33,6 @@ pub fn fill<L: Levels>(levels: &L, tables: &mut Tables, file: &[u8]) -> Result<L
 {
     tables.clear();
     let layout = Layout::read(file)?;
-    check_records(levels, tables, file, layout)?;
+    check_records(levels, tables, &Parts { file, layout })?;
     Ok(layout)
 }

@@ -6,7 +6,6 @@ ghost use Rattle.tables.specs.View.{view};
 use crate::site::Site;
 use levels::Levels;
 use program::records::Node;
-use typing::rows::ArgumentTest;
 
 impl<L: Levels> Site<'_, L> {
     fn is_public(&self, node: u16) -> bool
@@ -20,39 +19,27 @@ impl<L: Levels> Site<'_, L> {
     {
         let tables = self.tables;
         match node {
-            Node::Choice {
-                condition: child,
-                ..
-            }
-            | Node::If {
-                condition: child,
-                ..
-            }
-            | Node::IfElse {
-                condition: child,
-                ..
-            }
-            | Node::While {
-                condition: child,
-                ..
-            }
-            | Node::DoWhile {
-                condition: child,
-                ..
-            }
-            | Node::Output { operand: child } => self.is_public(child),
+            Node::Choice { condition, .. }
+            | Node::If { condition, .. }
+            | Node::IfElse { condition, .. }
+            | Node::While { condition, .. }
+            | Node::DoWhile { condition, .. } => self.is_public(condition),
             Node::Assignment { variable, value } => self.levels.flows(
                 tables.level(value),
                 tables.variable_level(variable as usize),
             ),
             Node::Call { procedure, first } => self.call_fits(
-                ArgumentTest::Level,
                 procedure,
                 first,
+                |parameter, value| {
+                    self.levels
+                        .flows(tables.level(value), tables.variable_level(parameter))
+                },
             ),
             Node::Return { value } => self
                 .levels
                 .flows(tables.level(value), tables.result_level(self.procedure)),
+            Node::Output { operand } => self.is_public(operand),
             _ => true,
         }
     }

@@ -15,6 +15,7 @@ mod names;
 mod nodes;
 mod operators;
 mod procedures;
+mod records;
 mod rows;
 mod scope;
 mod site;

@@ -1,8 +1,9 @@
 // Row 17: each node but a body is named as a child exactly once.
-ghost use Rattle.std.specs.Prelude.{◌≡◌, ◌<◌, ◌≤◌, ◌||◌, [], length, replicate, fold, vec_capacity};
+ghost use Rattle.std.specs.Prelude.{◌≡◌, ◌≤◌, ◌||◌, [], length, replicate, fold, vec_capacity};
 ghost use Rattle.program.specs.Program.{children, optional};
 ghost use Rattle.typing.specs.Faults.{name_fault};
 ghost use Rattle.typing.specs.First.{first};
+ghost use Rattle.tables.specs.View.{view};
 ghost use Rattle.tables.specs.declared.tables.Naming.TheVariants.{Never};
 ghost use Rattle.checker.specs.Names.{more, is_once, marked_all, marked_by, count_fault};
 ghost use Rattle.checker.specs.Records.{checked, is_body_of};
@@ -30,6 +31,7 @@ fn mark(names: &mut [Naming], child: Option<u16>)
     let Some(child) = child else {
         return;
     };
+    // By a test of the index: what `get_mut` leaves in a slice is not known to a proof.
     let child = child as usize;
     if child < names.len() {
         names[child] = once_more(names[child]);
@@ -52,6 +54,7 @@ fn mark_names(names: &mut [Naming], nodes: &[TypedNode])
     }
 }
 
+// Makes an entry for each node. Entry by entry, since `resize` may ask for memory.
 fn name_none(names: &mut Vec<Naming>, nodes: &[TypedNode])
     requires room { (length nodes.now ≤ 1024) × (1024 ≤ vec_capacity names.old) }
     requires empty { names.old.items ≡ [] }
@@ -89,9 +92,7 @@ pub(crate) fn check_names(tables: &mut Tables) -> Result<(), Refusal>
     requires room { length tables.old.nodes.items ≤ 1024 }
     requires empty { tables.old.names.items ≡ [] }
     ensures value { result ≡ checked tt (first (name_fault tables.old.procedures.items tables.old.nodes.items) (length tables.old.nodes.items)) }
-    ensures variables { tables.new.variables ≡ tables.old.variables }
-    ensures procedures { tables.new.procedures ≡ tables.old.procedures }
-    ensures nodes { tables.new.nodes ≡ tables.old.nodes }
+    ensures same { view tables.new ≡ view tables.old }
 {
     name_none(&mut tables.names, &tables.nodes);
     mark_names(&mut tables.names, &tables.nodes);

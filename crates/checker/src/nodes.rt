@@ -1,17 +1,19 @@
 // The node records, and rows 10 to 16.
-ghost use Rattle.std.specs.Prelude.{◌≡◌, ◌*◌, ◌≤◌, [], length, OnOk};
+ghost use Rattle.std.specs.Prelude.{◌≡◌, [], OnOk};
 ghost use Rattle.program.specs.Decode.{node_decoded};
 ghost use Rattle.program.specs.Program.{no_node};
-ghost use Rattle.typing.specs.Faults.{known, typed_node, typed_nodes, record_fault, node_fault};
+ghost use Rattle.typing.specs.Faults.{known, typed_node, record_fault};
 ghost use Rattle.typing.specs.First.{first};
 ghost use Rattle.tables.specs.View.{view};
-ghost use Rattle.checker.specs.Records.{checked};
+ghost use Rattle.checker.specs.Files.{variables_of, procedures_of, nodes_of, fault_of_node};
+ghost use Rattle.checker.specs.Records.{checked, Holds};
 
 use crate::bodies::next_procedure;
+use crate::records::Parts;
 use crate::site::Site;
 use levels::Levels;
 use program::decode::decode_node;
-use program::fields::{NodeFields, split_node};
+use program::fields::NodeFields;
 use program::refusal::Refusal;
 use tables::tables::Tables;
 use typing::classes::TypedNode;
@@ -30,29 +32,17 @@ impl<L: Levels> Site<'_, L> {
     }
 }
 
-// Checks the file's first `count` records.
 pub(crate) fn check_nodes<L: Levels>(
     levels: &L,
     tables: &mut Tables,
-    file: &[u8],
-    count: usize,
+    parts: &Parts,
 ) -> Result<(), Refusal>
-    requires room { count ≤ 1024 }
-    requires empty { tables.old.nodes.items ≡ [] }
-    requires long { 12 * count ≤ length file.now }
-    ensures value { result ≡ checked tt (first (node_fault L.Levels.rules tables.old.variables.items tables.old.procedures.items file.now) count) }
-    ensures items { OnOk result (tables.new.nodes.items ≡ typed_nodes L.Levels.rules tables.old.variables.items tables.old.procedures.items file.now count) }
-    ensures variables { tables.new.variables ≡ tables.old.variables }
-    ensures procedures { tables.new.procedures ≡ tables.old.procedures }
-    ensures names { tables.new.names ≡ tables.old.names }
+    requires { Holds tables.old (variables_of parts.now) (procedures_of parts.now) [] }
+    ensures value { result ≡ checked tt (first (fault_of_node L.Levels.rules parts.now) parts.now.layout.nodes) }
+    ensures filled { OnOk result (Holds tables.new (variables_of parts.now) (procedures_of parts.now) (nodes_of L.Levels.rules parts.now)) }
 {
-    let mut left = file;
     let mut procedure = 0;
-    for place in 0..count {
-        let Some((fields, rest)) = split_node(left) else {
-            unreachable()
-        };
-        left = rest;
+    for (place, fields) in parts.nodes().enumerate() {
         let place = place as u16;
         let site = Site {
             levels,

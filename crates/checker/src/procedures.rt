@@ -1,19 +1,21 @@
 // The procedure records, and rows 5 to 8.
-ghost use Rattle.std.specs.Prelude.{◌≡◌, ◌+◌, ◌*◌, ◌<◌, ◌≤◌, ◌&&◌, [], length, Some, vec_capacity, OnOk, nat_le, nat_lt};
+ghost use Rattle.std.specs.Prelude.{◌≡◌, ◌+◌, ◌&&◌, [], length, Some, OnOk, nat_le, nat_lt};
 ghost use Rattle.program.specs.Decode.{procedure_decoded};
 ghost use Rattle.program.specs.Program.{no_procedure};
 ghost use Rattle.program.specs.declared.refusal.Refusal.TheVariants.{Result as BadResult};
-ghost use Rattle.typing.specs.Faults.{known, procedures_in, result_fits, is_parameter_of, same_truth, owned_at, all_below, parameters_fit, rises, body_stands, main_fits, procedure_rows, procedure_fault};
+ghost use Rattle.typing.specs.Faults.{known, result_fits, is_parameter_of, same_truth, owned_at, all_below, parameters_fit, rises, body_stands, main_fits, procedure_rows};
 ghost use Rattle.typing.specs.First.{or_else, unless, first};
-ghost use Rattle.checker.specs.Records.{checked};
+ghost use Rattle.checker.specs.Files.{variables_of, procedures_of, fault_of_procedure};
+ghost use Rattle.checker.specs.Records.{checked, Holds};
 
+use crate::records::Parts;
 use crate::rows::require;
 use levels::Levels;
 use program::decode::{decode_procedure, is_statement_kind};
-use program::fields::{ProcedureFields, split_procedure};
-use program::layout::Layout;
+use program::fields::ProcedureFields;
 use program::records::{Procedure, Role, Variable};
 use program::refusal::Refusal;
+use tables::tables::Tables;
 
 fn result_fits<L: Levels>(levels: &L, procedure: Procedure) -> bool
     ensures { result ≡ result_fits L.Levels.rules (Some procedure) }
@@ -59,89 +61,63 @@ fn is_above(procedures: &[Procedure], body: u16) -> bool
     procedures.last().is_none_or(|last| last.body < body)
 }
 
-fn body_stands(
-    file: &[u8],
-    layout: Layout,
-    procedures: &[Procedure],
-    place: usize,
-    body: u16,
-) -> bool
-    requires nodes_in_bounds { 12 * layout.nodes ≤ length file.now }
-    requires place_lt_procedures { place < layout.procedures }
-    ensures { result ≡ body_stands file.now layout.nodes layout.procedures procedures.now place body }
+fn body_stands(parts: &Parts, procedures: &[Procedure], place: u16, body: u16) -> bool
+    ensures { result ≡ body_stands parts.now.file.now parts.now.layout.nodes parts.now.layout.procedures procedures.now place body }
 {
+    let Parts { file, layout } = *parts;
+    let body_place = body as usize;
     is_above(procedures, body)
-        && (body as usize) < layout.nodes
-        && is_statement_kind(file[12 * body as usize])
-        && (place + 1 != layout.procedures || body as usize + 1 == layout.nodes)
+        && body_place < layout.nodes
+        && is_statement_kind(file[12 * body_place])
+        && (place as usize + 1 != layout.procedures || body_place + 1 == layout.nodes)
 }
 
 // The last procedure is main.
-fn main_fits(procedures: usize, place: usize, procedure: Procedure) -> bool
-    requires { place < procedures }
+fn main_fits(procedures: usize, place: u16, procedure: Procedure) -> bool
     ensures { result ≡ main_fits procedures place procedure }
 {
-    place + 1 != procedures || (procedure.result.is_none() && procedure.parameters == 0)
+    place as usize + 1 != procedures || (procedure.result.is_none() && procedure.parameters == 0)
 }
 
+// Checks a record after those that the tables hold.
 fn check_procedure<L: Levels>(
     levels: &L,
-    file: &[u8],
-    layout: Layout,
-    variables: &[Variable],
-    procedures: &[Procedure],
-    place: usize,
+    tables: &Tables,
+    parts: &Parts,
+    place: u16,
     fields: ProcedureFields,
 ) -> Result<Procedure, Refusal>
-    requires nodes_in_bounds { 12 * layout.nodes ≤ length file.now }
-    requires procedures_bound { layout.procedures ≤ 32 }
-    requires place_lt_procedures { place < layout.procedures }
-    ensures { result ≡ checked (known no_procedure (procedure_decoded fields)) (or_else (unless (result_fits L.Levels.rules (procedure_decoded fields)) (BadResult place)) (procedure_rows file.now layout.nodes layout.procedures variables.now procedures.now place (known no_procedure (procedure_decoded fields)))) }
+    ensures { result ≡ checked (known no_procedure (procedure_decoded fields)) (or_else (unless (result_fits L.Levels.rules (procedure_decoded fields)) (BadResult place)) (procedure_rows parts.now.file.now parts.now.layout.nodes parts.now.layout.procedures tables.now.variables.items tables.now.procedures.items place (known no_procedure (procedure_decoded fields)))) }
 {
-    let number = place as u16;
-    let procedure = decode_procedure(fields).ok_or(Refusal::Result(number))?;
-    require(result_fits(levels, procedure), Refusal::Result(number))?;
+    let procedure = decode_procedure(fields).ok_or(Refusal::Result(place))?;
+    require(result_fits(levels, procedure), Refusal::Result(place))?;
     require(
-        parameters_fit(variables, number, procedure),
-        Refusal::Parameters(number),
+        parameters_fit(&tables.variables, place, procedure),
+        Refusal::Parameters(place),
     )?;
     require(
-        body_stands(file, layout, procedures, place, procedure.body),
-        Refusal::Body(number),
+        body_stands(parts, &tables.procedures, place, procedure.body),
+        Refusal::Body(place),
     )?;
     require(
-        main_fits(layout.procedures, place, procedure),
-        Refusal::Main(number),
+        main_fits(parts.layout.procedures, place, procedure),
+        Refusal::Main(place),
     )?;
     Ok(procedure)
 }
 
-// Checks the records at the front of `part`, the file's procedures.
 pub(crate) fn check_procedures<L: Levels>(
     levels: &L,
-    procedures: &mut Vec<Procedure>,
-    variables: &[Variable],
-    file: &[u8],
-    layout: Layout,
-    part: &[u8],
+    tables: &mut Tables,
+    parts: &Parts,
 ) -> Result<(), Refusal>
-    requires room { (layout.procedures ≤ 32) × (32 ≤ vec_capacity procedures.old) }
-    requires empty { procedures.old.items ≡ [] }
-    requires long { (12 * layout.nodes ≤ length file.now) × (12 * layout.procedures ≤ length part.now) }
-    ensures value { result ≡ checked tt (first (procedure_fault L.Levels.rules file.now layout.nodes layout.procedures variables.now part.now) layout.procedures) }
-    ensures items { OnOk result (procedures.new.items ≡ procedures_in part.now layout.procedures) }
-    ensures capacity { vec_capacity procedures.new ≡ vec_capacity procedures.old }
+    requires { Holds tables.old (variables_of parts.now) [] [] }
+    ensures value { result ≡ checked tt (first (fault_of_procedure L.Levels.rules parts.now) parts.now.layout.procedures) }
+    ensures filled { OnOk result (Holds tables.new (variables_of parts.now) (procedures_of parts.now) []) }
 {
-    let mut left = part;
-    for place in 0..layout.procedures {
-        let Some((fields, rest)) = split_procedure(left) else {
-            unreachable()
-        };
-        left = rest;
-        let procedure = check_procedure(
-            levels, file, layout, variables, procedures, place, fields,
-        )?;
-        procedures.push_reserved(procedure);
+    for (place, fields) in parts.procedures().enumerate() {
+        let procedure = check_procedure(levels, tables, parts, place as u16, fields)?;
+        tables.procedures.push_reserved(procedure);
     }
     Ok(())
 }

@@ -1,17 +1,21 @@
 // The variable records, and row 4.
-ghost use Rattle.std.specs.Prelude.{◌≡◌, ◌*◌, ◌≤◌, [], length, Some, vec_capacity, OnOk};
+ghost use Rattle.std.specs.Prelude.{◌≡◌, [], Some, OnOk};
 ghost use Rattle.program.specs.Decode.{variable_decoded};
 ghost use Rattle.program.specs.Program.{no_variable};
 ghost use Rattle.program.specs.declared.refusal.Refusal.TheVariants.{Variable as BadVariable};
-ghost use Rattle.typing.specs.Faults.{known, variables_in, variable_fits, variable_fault};
+ghost use Rattle.typing.specs.Faults.{known, variable_fits};
 ghost use Rattle.typing.specs.First.{unless, first};
-ghost use Rattle.checker.specs.Records.{checked};
+ghost use Rattle.tables.specs.View.{Empty};
+ghost use Rattle.checker.specs.Files.{variables_of, fault_of_variable};
+ghost use Rattle.checker.specs.Records.{checked, Holds};
 
+use crate::records::Parts;
 use levels::Levels;
 use program::decode::decode_variable;
-use program::fields::{VariableFields, split_variable};
+use program::fields::VariableFields;
 use program::records::{Role, Variable};
 use program::refusal::Refusal;
+use tables::tables::Tables;
 
 fn variable_fits<L: Levels>(levels: &L, procedures: usize, variable: Variable) -> bool
     ensures { result ≡ variable_fits L.Levels.rules procedures (Some variable) }
@@ -37,28 +41,19 @@ fn check_variable<L: Levels>(
         .ok_or(Refusal::Variable(place))
 }
 
-// Checks `count` records at the front of `part`, in a file of so many procedures.
 pub(crate) fn check_variables<L: Levels>(
     levels: &L,
-    variables: &mut Vec<Variable>,
-    part: &[u8],
-    count: usize,
-    procedures: usize,
+    tables: &mut Tables,
+    parts: &Parts,
 ) -> Result<(), Refusal>
-    requires room { (count ≤ 128) × (128 ≤ vec_capacity variables.old) }
-    requires empty { variables.old.items ≡ [] }
-    requires long { 8 * count ≤ length part.now }
-    ensures value { result ≡ checked tt (first (variable_fault L.Levels.rules procedures part.now) count) }
-    ensures items { OnOk result (variables.new.items ≡ variables_in part.now count) }
-    ensures capacity { vec_capacity variables.new ≡ vec_capacity variables.old }
+    requires { Empty tables.old }
+    ensures value { result ≡ checked tt (first (fault_of_variable L.Levels.rules parts.now) parts.now.layout.variables) }
+    ensures filled { OnOk result (Holds tables.new (variables_of parts.now) [] []) }
 {
-    let mut left = part;
-    for place in 0..count {
-        let Some((fields, rest)) = split_variable(left) else {
-            unreachable()
-        };
-        left = rest;
-        variables.push_reserved(check_variable(levels, procedures, place as u16, fields)?);
+    let procedures = parts.layout.procedures;
+    for (place, fields) in parts.variables().enumerate() {
+        let variable = check_variable(levels, procedures, place as u16, fields)?;
+        tables.variables.push_reserved(variable);
     }
     Ok(())
 }

@@ -1,5 +1,5 @@
 // The parts of a program file: node records, variable records, procedure records and the trailer.
-ghost use Rattle.std.specs.Prelude.{◌≡◌, ◌+◌, ◌-◌, ◌*◌, ◌≤◌, length, IfOk};
+ghost use Rattle.std.specs.Prelude.{◌≡◌, ◌+◌, ◌≤◌, length, IfOk};
 ghost use Rattle.program.specs.Fields.{word_at};
 ghost use Rattle.program.specs.Layout.{is_closing, closes, in_order, in_number, layout_of, Covers};
 
@@ -57,11 +57,9 @@ fn is_in_order(variables: usize, procedures: usize, trailer: usize) -> bool
 fn is_in_number(layout: Layout) -> bool
     ensures { result ≡ in_number layout }
 {
-    1 <= layout.nodes
-        && layout.nodes <= 1024
+    (1..=1024).contains(&layout.nodes)
         && layout.variables <= 128
-        && 1 <= layout.procedures
-        && layout.procedures <= 32
+        && (1..=32).contains(&layout.procedures)
 }
 
 impl Layout {

@@ -12,7 +12,8 @@ pub enum Naming {
     Often,
 }
 
-// What a file holds, and how often each of its nodes is named.
+// What a file holds, and how often each of its nodes is named. The names stand beside the nodes and not in them, since
+// a node's checking is done before it is named, and no row but the last reads the count.
 #[derive(Drop)]
 pub struct Tables {
     pub variables: Vec<Variable>,

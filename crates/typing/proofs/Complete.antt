@@ -15,13 +15,11 @@ use Rattle.program.specs.declared.records.Variable.{Variable as VariableRecord}
 use Rattle.program.specs.declared.records.Procedure.{Procedure}
 use Rattle.typing.specs.Environment.{Environment, node_at, procedure_at, procedure_of, type_of, level_of, exits_of}
 use Rattle.typing.specs.Formed.{Among}
-use Rattle.typing.specs.Rows.{child_class, class_within, is_value, is_argument, is_statement, argument_child, children_fit, readable, readable_role, assignable, assignable_role, definable, definable_role, scope_fits, agree, variable_type, variable_level, argument_fits, argument_at, argument_in, argument_node, first_argument_fits, next_argument, arguments_fit, call_fits, calls_fit, arithmetic_takes, comparison_takes, result_of, is_void, is_absent, types_fit, result_level, levels_fit, repeats, parts_fit}
+use Rattle.typing.specs.Rows.{child_class, class_within, is_value, is_argument, is_statement, argument_child, children_fit, readable, readable_role, assignable, assignable_role, definable, definable_role, scope_fits, agree, variable_type, variable_level, argument_fits, argument_at, argument_in, argument_node, first_argument_fits, next_argument, arguments_fit, call_fits, calls_fit, arithmetic_takes, comparison_takes, result_of, is_void, is_absent, types_fit, result_level, levels_fit, repeats, parts_fit, ArgumentTest, Number, Types, Levels}
 use Rattle.typing.specs.Typing.{NodeIs, VariableIs, ProcedureIs, Readable, Assignable, Definable, Numeric, Comparable, parameters_of, Expression, Arguments, VoidCall, Statement, constant, variable, minus, not, arithmetic, comparison, and, or, choice, assignment, call, release, none, argument, void_call, expression, procedure_call, sequence, if, if_else, while, do_while, return, return_void, break, continue, definition, output}
 use Rattle.typing.specs.declared.classes.Class.{Class}
 use Rattle.typing.specs.declared.classes.Class.TheVariants.{Value, Statement as StatementClass}
 use Rattle.typing.specs.declared.classes.Exits.{Exits}
-use Rattle.typing.specs.declared.rows.ArgumentTest.{ArgumentTest}
-use Rattle.typing.specs.declared.rows.ArgumentTest.TheVariants.{Number, DataType as Types, Level as Levels}
 use Rattle.typing.proofs.Tabled.{below, typed, seen, node_is, procedure_is, at_below, at_there, some_none}
 use Rattle.typing.proofs.Determined.{expression_class, argument_class, void_class, statement_class, type_known, level_known, exits_known}
 

@@ -17,11 +17,10 @@ use Rattle.typing.specs.Classes.{class_of, class_of_variable, class_of_call}
 use Rattle.typing.specs.Environment.{Environment, procedure_at, class_exits}
 use Rattle.typing.specs.Faults.{variable_fits, owner_fits, void_fits, is_parameter_of, same_truth, owned_at, all_below, parameters_fit, is_body}
 use Rattle.typing.specs.Formed.{Owned, VariableFormed, Within, ProcedureFormed, Belongs, Among, times_child, IsBody, WellFormed}
-use Rattle.typing.specs.Rows.{passes, first_broken, refusal_of, node_rows, parts_fit, body_fits, body_exits_fit, is_absent, is_value, is_argument, is_statement, value_child, statement_child, argument_child, children_fit}
+use Rattle.typing.specs.Rows.{passes, first_broken, refusal_of, node_rows, parts_fit, body_fits, body_exits_fit, is_absent, is_value, is_argument, is_statement, value_child, statement_child, argument_child, children_fit, Child as ChildRow, Scope, Called, Typed, Level, Ended}
 use Rattle.typing.specs.Typing.{NodeIs, VariableIs, ProcedureIs, Ends, Statement, WellTyped}
 use Rattle.typing.specs.declared.classes.Class.{Class}
 use Rattle.typing.specs.declared.classes.Exits.{Exits}
-use Rattle.typing.specs.declared.rows.NodeRow.TheVariants.{Child as ChildRow, Scope, Call as Called, DataType as Typed, Level, Exits as Ended}
 use Rattle.typing.proofs.Rising.{all_below_at}
 use Rattle.typing.proofs.Tabled.{home, below, typed, class_is, at_below, at_there, at_item, some_none, false_true}
 use Rattle.typing.proofs.Complete.{Passes}

@@ -17,14 +17,12 @@ use Rattle.program.specs.declared.records.Procedure.{Procedure}
 use Rattle.typing.specs.Classes.{class_of, class_of_variable, class_of_call}
 use Rattle.typing.specs.Environment.{node_at, variable_at, procedure_at, type_of, level_of, exits_of, type_in, level_in, exits_in, class_type, class_level, class_exits}
 use Rattle.typing.specs.Exits.{falling, returning}
-use Rattle.typing.specs.Rows.{child_class, class_within, is_value, is_argument, is_statement, value_child, statement_child, argument_child, readable, readable_role, assignable, assignable_role, definable, definable_role, agree, variable_type, variable_level, argument_fits, argument_in, argument_node, first_argument_fits, next_argument, arguments_fit, call_fits, numeric, is_equality, arithmetic_takes, comparison_takes, result_of, is_void, is_absent, is_bool, is_public, result_level}
+use Rattle.typing.specs.Rows.{child_class, class_within, is_value, is_argument, is_statement, value_child, statement_child, argument_child, readable, readable_role, assignable, assignable_role, definable, definable_role, agree, variable_type, variable_level, argument_fits, argument_in, argument_node, first_argument_fits, next_argument, arguments_fit, call_fits, numeric, is_equality, arithmetic_takes, comparison_takes, result_of, is_void, is_absent, is_bool, is_public, result_level, ArgumentTest, Types, Levels}
 use Rattle.typing.specs.Typing.{NodeIs, ProcedureIs, Readable, Assignable, Definable, Numeric, Comparable, parameters_of, Expression, Arguments, VoidCall, Statement, constant, variable, minus, not, arithmetic, comparison, and, or, choice, assignment, call, release, none, argument, void_call, expression, procedure_call, sequence, if, if_else, while, do_while, return, return_void, break, continue, definition, output}
 use Rattle.typing.specs.declared.classes.Class.{Class}
 use Rattle.typing.specs.declared.classes.Class.TheVariants.{Value, Argument, Statement as StatementClass}
 use Rattle.typing.specs.declared.classes.Exits.{Exits}
 use Rattle.typing.specs.declared.classes.TypedNode.{TypedNode}
-use Rattle.typing.specs.declared.rows.ArgumentTest.{ArgumentTest}
-use Rattle.typing.specs.declared.rows.ArgumentTest.TheVariants.{DataType as Types, Level as Levels}
 use Rattle.typing.proofs.Tabled.{home, below, typed, seen, node_is, class_is, procedure_is, at_there, some_none, false_true}
 use Rattle.typing.proofs.Complete.{Passes}
 
@@ -144,9 +142,9 @@ module _ (r : Rules) (p : Program) where
 
   -- ---- one node, above nodes that have derivations
 
-  module _ (n : ℕ) (lower-derive : (m : ℕ) → m < n → Derives (home p m) m (typed r p m).class) where
+  module _ (n : ℕ) (lower_derive : (m : ℕ) → m < n → Derives (home p m) m (typed r p m).class) where
     derive_in : (q m : ℕ) → m < n → home p m ≡ q → Derives q m (typed r p m).class
-    derive_in q m lt e = subst (λ (o : ℕ). Derives o m (typed r p m).class) e (lower-derive m lt)
+    derive_in q m lt e = subst (λ (o : ℕ). Derives o m (typed r p m).class) e (lower_derive m lt)
 
     operand_of : (q m : ℕ) (t : DataType) → m < n → home p m ≡ q → type_of (below r p n) m ≡ Some t → Expression r p q m t (level_of (below r p n) m)
     operand_of q m t lt e h =

@@ -21,10 +21,6 @@ use Rattle.typing.specs.declared.classes.Exits.{Exits}
 use Rattle.typing.specs.declared.classes.Class.{Class}
 use Rattle.typing.specs.declared.classes.Class.TheVariants.{Value, Argument, Statement}
 use Rattle.typing.specs.declared.classes.TypedNode.{TypedNode}
-use Rattle.typing.specs.declared.rows.NodeRow.{NodeRow}
-use Rattle.typing.specs.declared.rows.NodeRow.TheVariants.{Child, Scope, Call as Called, DataType as Typed, Level, Exits as Ended}
-use Rattle.typing.specs.declared.rows.ArgumentTest.{ArgumentTest}
-use Rattle.typing.specs.declared.rows.ArgumentTest.TheVariants.{Number, DataType as Types, Level as Levels}
 
 -- ---- row 11: each child is below 1024, below its parent, of the parent's procedure and of the class that the parent asks
 
@@ -153,6 +149,12 @@ scope_fits e q (Definition v) = definable q (variable_at e v)
 scope_fits e q (Output a) = true
 
 -- ---- arguments: rows 13, 14 and 15 test them at their call
+
+-- what is tested of the arguments of a call: their number, their data types or their levels
+pub data ArgumentTest : Type 0 where
+  Number : ArgumentTest
+  Types : ArgumentTest
+  Levels : ArgumentTest
 
 -- two data types that are there and the same
 abbrev pub agree : Option DataType → Option DataType → Bool
@@ -407,6 +409,15 @@ abbrev pub exits_fit : Rules → Environment → ℕ → ℕ → Node → Bool
 exits_fit r e k q n = parts_fit e n && body_fits k (procedure_at e q) (class_of r e n)
 
 -- ---- all rows, in order
+
+-- a row, by what it tests: children, variables, calls, data types, levels, exits
+pub data NodeRow : Type 0 where
+  Child : NodeRow
+  Scope : NodeRow
+  Called : NodeRow
+  Typed : NodeRow
+  Level : NodeRow
+  Ended : NodeRow
 
 abbrev pub node_rows : List NodeRow
 node_rows = Child ∷ Scope ∷ Called ∷ Typed ∷ Level ∷ Ended ∷ []

@@ -1,6 +1,5 @@
 -- What the counts say is what row 17 asks.
 use Rattle.std.proofs.Common.{◌≡◌, List, length, vec_items, ap, ◌∙◌, arith}
-use lib.ListN.{length-replicate}
 use Rattle.std.proofs.Math.Seq.{take-append_seam}
 use Rattle.typing.specs.First.{first}
 use Rattle.tables.specs.declared.tables.Naming.{Naming}
@@ -8,12 +7,6 @@ use Rattle.checker.specs.Names.{names_of, count_fault}
 use Rattle.checker.specs.Records.{checked}
 use Rattle.checker.proofs.Marks.{counts_say}
 use Rattle.checker.proofs.names.check_names.Goals as goal
-
-pub check_counts-requires : goal.check_counts-requires
-check_counts-requires c =
-    let len : c.name_none.new.names.len ≡ length c.mark_names.new.names = omega (arith, c.mark_names.auto.names, c.deref_mut.ensures.len) in
-    rw (len, take-append_seam c.mark_names.new.names)
-    (omega (arith, c.mark_names.auto.names, c.deref_mut.ensures.len, ap length c.name_none.ensures.items, length-replicate {A = Naming}, ap length c.deref.ensures.value))
 
 pub returns-clause-value : goal.returns-clause-value
 returns-clause-value c =

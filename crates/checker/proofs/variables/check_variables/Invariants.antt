@@ -1,12 +1,16 @@
 -- The records before have no fault, and the table holds them.
-use Rattle.std.proofs.Common.{◌≡◌, ◌*◌, drop, None, vec_items, vec_capacity}
-use Rattle.typing.specs.Faults.{variables_in, variable_fault}
+use Rattle.std.proofs.Common.{◌≡◌, ◌+◌, ◌*◌, drop, [], None}
+use Rattle.typing.specs.Faults.{variables_in, variable_fault, variable_part}
 use Rattle.typing.specs.First.{first}
+use Rattle.checker.specs.Records.{Holds}
 use Rattle.checker.proofs.variables.check_variables.Given as goal
 
 abbrev pub invariant-loop-place : goal.invariant-loop-place
 invariant-loop-place g l =
-    (l.left ≡ drop (8 * l.place) l.part)
-    × (first (variable_fault g.L.Levels.rules l.procedures l.part) l.place ≡ None)
-    × (vec_items l.variables ≡ variables_in l.part l.place)
-    × (vec_capacity l.variables ≡ vec_capacity l.initial.variables)
+    let part = variable_part l.parts.layout l.parts.file.now in
+    let records = l.place-iterator.iter in
+    let i = l.place-iterator.count in
+    (records.left.now ≡ drop (8 * i) part)
+    × (records.count + i ≡ l.parts.layout.variables)
+    × (first (variable_fault g.L.Levels.rules l.parts.layout.procedures part) i ≡ None)
+    × Holds l.tables (variables_in part i) [] []
