@@ -23,11 +23,11 @@ use Rattle.engine.specs.declared.frames.Next.TheVariants.{Begin, Ended}
 -- ---- what fits
 
 module _ (e : Environment) where
-  pub push_fits : (f : Frame) (n : ℕ) (es : List Entry) → move_fits e (length es) (Under f n) ≡ true → stack_fits e es ≡ true → (stack_fits e (Framed f ∷ es) ≡ true) × (depth_fits e n (suc (length es)) ≡ true)
+  pub push_fits : (f : Frame) (n : ℕ) (es : List Entry) → move_fits e (length es) (Under f n) ≡ true → stack_fits e es ≡ true → stack_fits e (Framed f ∷ es) ≡ true
   unfolding stack_fits
   push_fits f n es h k =
       let p = and_parts (frame_below e f && depth_fits e (number f) (length es)) (depth_fits e n (suc (length es))) h in
-      (and_from (frame_below e f && depth_fits e (number f) (length es)) (stack_fits e es) p.0 k, p.1)
+      and_from (frame_below e f && depth_fits e (number f) (length es)) (stack_fits e es) p.0 k
 
   pub framed_fits : (f : Frame) (es fs : List Entry) → es ≡ Framed f ∷ fs → stack_fits e es ≡ true → (frame_below e f ≡ true) × (depth_fits e (number f) (length fs) ≡ true)
   unfolding stack_fits

@@ -69,13 +69,11 @@ module _ (e : Environment) where
       omega (arith, ltb-true (0 + length fs) (length e.nodes) d)
 
   -- one figure more waits
-  pub passes_fits : (x : Value Shares) (m : ℕ) (es : List Entry) → in_call es ≡ true → depth_fits e (suc m) (length es) ≡ true → stack_fits e es ≡ true → (stack_fits e (Passed x ∷ es) ≡ true) × (depth_fits e m (suc (length es)) ≡ true)
+  pub passes_fits : (x : Value Shares) (m : ℕ) (es : List Entry) → in_call es ≡ true → depth_fits e (suc m) (length es) ≡ true → stack_fits e es ≡ true → stack_fits e (Passed x ∷ es) ≡ true
   unfolding stack_fits
   passes_fits x m es i d h =
-      let lt = ltb-true (suc m + length es) (length e.nodes) d in (
-        and_from (in_call es && depth_fits e 0 (length es)) (stack_fits e es) (and_from (in_call es) (depth_fits e 0 (length es)) i (lt-ltb (0 + length es) (length e.nodes) (omega (arith, lt)))) h,
-        lt-ltb (m + suc (length es)) (length e.nodes) (omega (arith, lt)),
-      )
+      let lt = ltb-true (suc m + length es) (length e.nodes) d in
+      and_from (in_call es && depth_fits e 0 (length es)) (stack_fits e es) (and_from (in_call es) (depth_fits e 0 (length es)) i (lt-ltb (0 + length es) (length e.nodes) (omega (arith, lt)))) h
 
 pub passed_in_call : (x : Value Shares) (es fs : List Entry) → es ≡ Passed x ∷ fs → in_call es ≡ true → in_call fs ≡ true
 unfolding in_call

@@ -50,6 +50,7 @@ impl<H: Holding + Drop> Store<H> {
     }
 
     // Call `n` goes on with its first argument, or with its procedure.
+    #[tactic(auto, unfolding(semantics::specs::State::bound))]
     pub(crate) fn call(&mut self, tables: &Tables, n: u16, number: u16, first: Option<u16>) -> Move
         requires body { nat_lt (procedure_at (view tables.now) number).body n ≡ true }
         requires first { next_below n first ≡ true }

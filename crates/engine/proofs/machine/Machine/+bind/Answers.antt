@@ -1,37 +1,27 @@
-use Rattle.std.proofs.Common.{◌≡◌, ◌+◌, ◌^◌, ◌<◌, true, ◌∷◌, length, sym, ap, ◌∙◌, arith, rules}
+use Rattle.std.proofs.Common.{◌≡◌, ◌<◌, true, length, sym, ap, ◌∙◌, arith, rules}
 use Rattle.program.specs.declared.records.Procedure.{Procedure}
 use Rattle.tables.specs.View.{view}
 use Rattle.engine.specs.Shape.{in_call}
 use Rattle.engine.specs.Standing.{entries}
 use Rattle.engine.specs.declared.control.Control.{Control}
-use Rattle.engine.specs.declared.frames.Entry.{Entry}
-use Rattle.engine.proofs.Passing.{passed_short, passed_in_call, framed_in_call, none_in_call, passed_call, framed_call, bound_none, bound_one}
+use Rattle.engine.proofs.Passing.{passed_in_call, framed_in_call, none_in_call, passed_call, framed_call, bound_none, bound_one}
 use Rattle.engine.proofs.machine.Machine.+bind.Goals as goal
 
 pub bind-call-requires : goal.bind-call-requires
 bind-call-requires g t c κs within =
     let s = c.args.self.now.control in
     let p = c.pop.new.self in
-    let h = c.in-Some-Passed.ensures.entries ∙ ap (λ (x : Entry). x ∷ entries p) c.in-Some-Passed.field-0-is in
-    let less : length (entries p) < length (entries s) = omega (arith, ap length h) in
-    let inside : in_call (entries p) ≡ true = passed_in_call c.in-Some-Passed.figure (entries s) (entries p) h c.requires in
+    let top = rw c.in-Some-Passed.field-0-is at c.in-Some-Passed.ensures.entries in
+    let less : length (entries p) < length (entries s) = omega (arith, ap length top) in
+    let inside : in_call (entries p) ≡ true = passed_in_call c.in-Some-Passed.figure (entries s) (entries p) top c.requires in
     search (rules, within)
-
-pub overflow_add-result : goal.overflow_add-result
-overflow_add-result g t c =
-    let s = c.args.self.now.control in
-    let p = c.pop.new.self in
-    let h = c.in-Some-Passed.ensures.entries ∙ ap (λ (x : Entry). x ∷ entries p) c.in-Some-Passed.field-0-is in
-    let short = passed_short (view s.tables) c.in-Some-Passed.figure (entries s) (entries p) h s.fits in
-    let small : c.bind-call.result.parameter + 1 < 2 ^ 64 = omega (arith, c.bind-call.ensures.small, short, s.tables.nodes.ok.0, s.few) in
-    search rules
 
 pub unreachable-requires : goal.unreachable-requires
 unreachable-requires g t c =
     let s = c.args.self.now.control in
     let p = c.pop.new.self in
-    let h = c.in-Some-Frame.ensures.entries ∙ ap (λ (x : Entry). x ∷ entries p) c.in-Some-Frame.field-0-is in
-    let (n, q, e) = framed_in_call c.in-Some-Frame.frame (entries s) (entries p) h c.requires in
+    let top = rw c.in-Some-Frame.field-0-is at c.in-Some-Frame.ensures.entries in
+    let (n, q, e) = framed_in_call c.in-Some-Frame.frame (entries s) (entries p) top c.requires in
     c.in_default.not-Calling n q e
 
 pub unreachable-requires-in-None : goal.unreachable-requires-in-None
@@ -45,7 +35,7 @@ returns-in-Some-Passed g t c =
     let p = c.pop.new.self in
     let b = c.bind-call.new.self in
     let call = c.bind-call.result in
-    let top = c.in-Some-Passed.ensures.entries ∙ ap (λ (x : Entry). x ∷ entries p) c.in-Some-Passed.field-0-is in
+    let top = rw c.in-Some-Passed.field-0-is at c.in-Some-Passed.ensures.entries in
     let same = c.bind-call.ensures.tables ∙ c.pop.ensures.tables in
     let more = bound_one h.stands (view s.tables) (view p.tables) (view b.control.tables) call.procedure call.parameter c.in-Some-Passed.figure (entries s) (entries p) m.store b.store c.set_parameter.new.self.store (ap view c.pop.ensures.tables) (ap view same) top c.bind-call.ensures.parameter c.bind-call.ensures.kept c.set_parameter.ensures.kept in
     let calls = passed_call c.in-Some-Passed.figure (entries s) (entries p) top in
@@ -65,7 +55,7 @@ returns-in-Calling g t c =
     let m = c.args.self.now in
     let s = m.control in
     let p = c.pop.new.self in
-    let top = c.in-Some-Frame.ensures.entries ∙ ap (λ (x : Entry). x ∷ entries p) c.in-Some-Frame.field-0-is in
+    let top = rw c.in-Some-Frame.field-0-is at c.in-Some-Frame.ensures.entries in
     let calls = framed_call c.in-Some-Frame.frame (entries s) (entries p) top in
     let none = bound_none h.stands (view s.tables) (view p.tables) c.in-Calling.number c.procedure.result.first_parameter c.in-Some-Frame.frame (entries s) (entries p) m.store (ap view c.pop.ensures.tables) top (ap (λ (d : Procedure). d.first_parameter) c.procedure.ensures) in
     let few : c.procedure.result.first_parameter < 65536 = search rules in

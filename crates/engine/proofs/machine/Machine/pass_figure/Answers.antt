@@ -9,21 +9,16 @@ use Rattle.engine.specs.Running.{program, frames}
 use Rattle.engine.proofs.Passing.{passes_fits, next_argument}
 use Rattle.engine.proofs.machine.Machine.pass_figure.Goals as goal
 
-pub push-requires : goal.push-requires
-push-requires g c =
+pub push-requires-clause-fits : goal.push-requires-clause-fits
+push-requires-clause-fits g c =
     let s = c.args.self.now.control in
     let e = view s.tables in
-    let fits = passes_fits e c.args.figure c.in-Some.argument (entries s) c.requires.call (subst (λ (o : Option ℕ). argument_fits e (length (entries s)) o ≡ true) c.in-Some.is c.requires.fits) s.fits in
-    record { fits = fits.0; depth = fits.1 }
+    passes_fits e c.args.figure c.in-Some.argument (entries s) c.requires.call (subst (λ (o : Option ℕ). argument_fits e (length (entries s)) o ≡ true) c.in-Some.is c.requires.fits) s.fits
 
-pub returns-in-Some : goal.returns-in-Some
-returns-in-Some g c =
+pub returns-in-Some-clause-stands : goal.returns-in-Some-clause-stands
+returns-in-Some-clause-stands g c =
     let h = g.H.Holding in
     let m = c.args.self.now in
     let p = c.push.new.self in
-    record {
-      tables = c.push.ensures.tables;
-      stands =
-          next_argument h.stands (program m) p.next c.args.figure c.in-Some.argument (entries m.control) (entries p) m.sheet m.store c.requires.call c.push.ensures.next c.push.ensures.entries
-          ∙ ap (λ (o : Option ℕ). model.pass (program m) (frames h.stands m) (Argues (value_of h.stands c.args.figure) o) m.sheet m.store) (sym c.in-Some.is);
-    }
+    next_argument h.stands (program m) p.next c.args.figure c.in-Some.argument (entries m.control) (entries p) m.sheet m.store c.requires.call c.push.ensures.next c.push.ensures.entries
+    ∙ ap (λ (o : Option ℕ). model.pass (program m) (frames h.stands m) (Argues (value_of h.stands c.args.figure) o) m.sheet m.store) (sym c.in-Some.is)

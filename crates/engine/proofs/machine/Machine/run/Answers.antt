@@ -13,11 +13,6 @@ loop-init g c =
     let m = c.args.self.now in
     (refl, run_none (program m) (standing h.stands m), omega arith)
 
-pub turn-requires : goal.turn-requires
-turn-requires g c =
-    let less : c.loop.counter < c.args.steps = search rules in
-    record { begins = c.in-Begin.is; fits = omega (arith, c.requires, c.loop.invariant.2, less) }
-
 pub loop-preserved : goal.loop-preserved
 loop-preserved g c =
     let h = g.H.Holding in
@@ -32,8 +27,8 @@ loop-preserved g c =
       omega (arith, c.turn.ensures.spent, c.loop.invariant.2),
     )
 
-pub returns-in-Ended : goal.returns-in-Ended
-returns-in-Ended g c =
+pub returns-in-Ended-clause-stands : goal.returns-in-Ended-clause-stands
+returns-in-Ended-clause-stands g c =
     let h = g.H.Holding in
     let m = c.args.self.now in
     let l = c.loop.self in
@@ -41,26 +36,17 @@ returns-in-Ended g c =
     let at = standing h.stands m in
     let less : c.loop.counter < c.args.steps = search rules in
     let rest : c.loop.counter + (c.args.steps - c.loop.counter) ≡ c.args.steps = omega (arith, less) in
-    record {
-      tables = c.loop.invariant.0;
-      stands =
-          run_ended e c.loop.counter (c.args.steps - c.loop.counter) at l.control.next _ (frames h.stands l) l.sheet l.store c.loop.invariant.1 c.in-Ended.is
-          ∙ ap (λ (n : ℕ). model.run e n at) rest;
-      spent = omega (arith, c.loop.invariant.2, less);
-      follows = machine_follows e;
-      adds = turns_add e;
-    }
+    run_ended e c.loop.counter (c.args.steps - c.loop.counter) at l.control.next _ (frames h.stands l) l.sheet l.store c.loop.invariant.1 c.in-Ended.is
+    ∙ ap (λ (n : ℕ). model.run e n at) rest
 
-pub returns : goal.returns
-returns g c =
-    let h = g.H.Holding in
-    let m = c.args.self.now in
-    let e = program m in
-    let all : c.loop.counter ≡ c.args.steps = search rules in
-    record {
-      tables = c.loop.invariant.0;
-      stands = c.loop.invariant.1 ∙ ap (λ (n : ℕ). model.run e n (standing h.stands m)) all;
-      spent = omega (arith, c.loop.invariant.2, all);
-      follows = machine_follows e;
-      adds = turns_add e;
-    }
+pub returns-in-Ended-clause-follows : goal.returns-in-Ended-clause-follows
+returns-in-Ended-clause-follows g c = machine_follows (program c.args.self.now)
+
+pub returns-in-Ended-clause-adds : goal.returns-in-Ended-clause-adds
+returns-in-Ended-clause-adds g c = turns_add (program c.args.self.now)
+
+pub returns-clause-follows : goal.returns-clause-follows
+returns-clause-follows g c = machine_follows (program c.args.self.now)
+
+pub returns-clause-adds : goal.returns-clause-adds
+returns-clause-adds g c = turns_add (program c.args.self.now)
