@@ -1,5 +1,5 @@
 -- A signal meets the entry on top of a stack.
-use Rattle.std.proofs.Common.{◌≡◌, ℕ, suc, ◌<◌, Bool, true, false, ◌&&◌, List, [], ◌∷◌, length, Some, None, Option, sym, refl, ap, ◌∙◌, subst, true≢false}
+use Rattle.std.proofs.Common.{◌≡◌, ℕ, suc, Bool, true, false, ◌&&◌, List, [], ◌∷◌, length, sym, refl, ap, ◌∙◌, true≢false}
 use Rattle.std.proofs.lemmas.Bool.{and_parts, and_from}
 use Rattle.holding.specs.declared.shares.Shares.{Shares}
 use Rattle.typing.specs.Environment.{Environment}
@@ -9,9 +9,9 @@ use Rattle.semantics.specs.declared.lines.Outcome.TheVariants.{Finished}
 use Rattle.semantics.specs.declared.values.Signal.{Signal}
 use Rattle.semantics.specs.declared.values.Signal.TheVariants.{Gives, Argues, Falls, Returns, Breaks, Continues}
 use Rattle.semantics.specs.declared.values.Value.{Value}
-use Rattle.engine.specs.Shape.{number, is_argument, is_calling, in_call, frame_below, depth_fits, stack_fits, signal_fits, move_fits}
+use Rattle.engine.specs.Shape.{number, is_argument, is_calling, in_call, frame_below, depth_fits, stack_fits, move_fits}
 use Rattle.engine.specs.View.{value_of, signal_of, frame_of, frames_of}
-use Rattle.engine.specs.Running.{config_of, HandedSame, HandedLess}
+use Rattle.engine.specs.Running.{config_of}
 use Rattle.engine.specs.declared.frames.Entry.{Entry}
 use Rattle.engine.specs.declared.frames.Entry.TheVariants.{Frame as Framed, Passed}
 use Rattle.engine.specs.declared.frames.Frame.{Frame}
@@ -88,17 +88,3 @@ module _ (stands : Shares → ℕ) where
       ap (λ (i : Environment). model.pass i (frames_of stands [] fs) (signal_of stands z) s k) t
       ∙ pass_any e fs [] (value_of stands x ∷ []) z s k n
       ∙ sym (ap (λ (gs : List Entry). model.pass e (frames_of stands [] gs) (signal_of stands z) s k) h)
-
--- ---- what goes on up
-
-pub signal_less : (e : Environment) (z : Signal Shares) (depth : ℕ) → is_argument z ≡ false → signal_fits e depth z ≡ true
-signal_less e (Gives x) depth h = refl
-signal_less e (Argues x next) depth h = absurd (true≢false h)
-signal_less e Falls depth h = refl
-signal_less e (Returns x) depth h = refl
-signal_less e Breaks depth h = refl
-signal_less e Continues depth h = refl
-
-pub handed_less : (o : Option (Signal Shares)) (es fs gs : List Entry) → length fs < length es → HandedSame o fs gs → HandedLess o es gs
-handed_less None es fs gs lt h = tt
-handed_less (Some z) es fs gs lt h = subst (λ (xs : List Entry). length xs < length es) (sym h) lt

@@ -1,5 +1,5 @@
 -- The figures that were passed to a call, and the parameters that they become.
-use Rattle.std.proofs.Common.{◌≡◌, ℕ, suc, ◌+◌, ◌<◌, true, ◌&&◌, ltb, List, [], ◌∷◌, ◌++◌, length, Some, None, sym, refl, ap, ◌∙◌, add-zero, arith, length-append}
+use Rattle.std.proofs.Common.{◌≡◌, ℕ, suc, ◌+◌, true, ◌&&◌, ltb, List, [], ◌∷◌, ◌++◌, length, Some, None, sym, refl, ap, ◌∙◌, add-zero, arith, length-append}
 use mathlib.Core.Bool.{false≢true}
 use Rattle.std.proofs.lemmas.List.{append-nil, append_assoc}
 use Rattle.std.proofs.lemmas.Bool.{and_parts, and_from, ltb-true, lt-ltb}
@@ -61,12 +61,6 @@ module _ (e : Environment) where
       let body : m ≡ (procedure e g).body = b ∙ ap (λ (z : Environment). (procedure z g).body) t in
       let q = running_fits n m fs (ap (λ (z : ℕ). ltb z n) body ∙ p.0) (ap (λ (gs : List Entry). depth_fits e n (length gs)) f ∙ p.1) (sym (ap (λ (z : Environment). stack_fits z fs) t) ∙ k) in
       (ap (λ (z : Environment). stack_fits z (Framed (Running n) ∷ fs)) t ∙ q.0, ap (λ (z : Environment). depth_fits z m (suc (length fs))) t ∙ q.1)
-
-  pub passed_short : (x : Value Shares) (es fs : List Entry) → es ≡ Passed x ∷ fs → stack_fits e es ≡ true → length fs < length e.nodes
-  unfolding stack_fits
-  passed_short x es fs h k =
-      let d = (and_parts (in_call fs) (depth_fits e 0 (length fs)) (and_parts (in_call fs && depth_fits e 0 (length fs)) (stack_fits e fs) (sym (ap (stack_fits e) h) ∙ k)).0).1 in
-      omega (arith, ltb-true (0 + length fs) (length e.nodes) d)
 
   -- one figure more waits
   pub passes_fits : (x : Value Shares) (m : ℕ) (es : List Entry) → in_call es ≡ true → depth_fits e (suc m) (length es) ≡ true → stack_fits e es ≡ true → stack_fits e (Passed x ∷ es) ≡ true

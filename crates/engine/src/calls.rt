@@ -15,18 +15,12 @@ use program::records::{Role, Variable};
 use semantics::values::Value;
 use tables::tables::Tables;
 
-fn is_local_of(number: u16, role: Role) -> bool
-    ensures { result ≡ is_local_of number role }
-{
-    role == Role::Local { procedure: number }
-}
-
 impl<H: Holding + Drop> Store<H> {
     // A variable becomes 0 if it is a local of the procedure.
     fn clear_local(&mut self, i: usize, variable: Variable, number: u16)
         ensures { self.new ≡ (if is_local_of number variable.role then stored i variable.level (Plain 0) self.old else self.old) }
     {
-        if is_local_of(number, variable.role) {
+        if variable.role == (Role::Local { procedure: number }) {
             self.set(i, variable.level, Value::Plain(0));
         }
     }

@@ -14,7 +14,6 @@ use crate::control::Control;
 use crate::frames::Next;
 use crate::machine::Machine;
 use crate::records::procedure;
-use crate::sheet::Sheet;
 use crate::store::Store;
 use crate::workspace::Workspace;
 use checker::fill::fill;
@@ -76,7 +75,9 @@ pub(crate) fn make<H: Holding + Drop>(workspace: Workspace, holding: H) -> Machi
 {
     let tables = workspace.tables;
     let mut stack = workspace.stack;
+    let mut sheet = workspace.sheet;
     stack.clear();
+    sheet.clear();
     let body = procedure(&tables, main_of(&tables)).body;
     let store = Store::all_zero(holding, &tables.variables);
     Machine {
@@ -86,6 +87,6 @@ pub(crate) fn make<H: Holding + Drop>(workspace: Workspace, holding: H) -> Machi
             next: Next::Begin(body),
         },
         store,
-        sheet: Sheet::new(workspace.lines),
+        sheet,
     }
 }

@@ -32,12 +32,6 @@ fn give(figure: Value<Shares>) -> Move
     Move::Over(Signal::Gives(figure))
 }
 
-fn either(test: bool, one: u16, other: u16) -> u16
-    ensures { result ≡ (if test then one else other) }
-{
-    if test { one } else { other }
-}
-
 // A loop goes on with its body where its guard holds.
 fn go_round(n: u16, guard: u16, body: u16, holds: bool) -> Move
     ensures { result ≡ (if holds then Under (Loop n guard body) body else Over Falls) }
@@ -164,7 +158,7 @@ impl<H: Holding + Drop> Store<H> {
             Want::Choose(chosen, otherwise) => wait(
                 n,
                 Want::Chosen,
-                either(holds(figure), chosen, otherwise),
+                if holds(figure) { chosen } else { otherwise },
             ),
             Want::Chosen => give(self.settle(tables.level(n), figure)),
             Want::Assign(variable) => give(self.assign(tables, variable, figure)),
@@ -173,11 +167,9 @@ impl<H: Holding + Drop> Store<H> {
             Want::Output(data_type) => output(n, data_type, plain_word(figure)),
             Want::Discard => Move::Over(Signal::Falls),
             Want::Branch(node) => branch(node, holds(figure)),
-            Want::BranchElse(branch, otherwise) => Move::Begin(either(
-                holds(figure),
-                branch,
-                otherwise,
-            )),
+            Want::BranchElse(branch, otherwise) => {
+                Move::Begin(if holds(figure) { branch } else { otherwise })
+            }
             Want::Guard(guard, body) => go_round(n, guard, body, holds(figure)),
             Want::Return => Move::Over(Signal::Returns(Some(self.settle(
                 result_level(tables, n),

@@ -30,6 +30,6 @@ returns g c =
     let zero = c.all_zero-store.ensures ∙ ap (λ (vs : List Variable). zeroed 0 vs (unset (h.counts c.args.holding))) c.deref.ensures.value in
     record {
       program = refl;
-      stands = opened_is h.stands e (h.counts c.args.holding) c.procedure-body.result.body c.clear.new.self.items _ _ body c.clear.ensures.items c.new.ensures zero;
+      stands = opened_is h.stands e (h.counts c.args.holding) c.procedure-body.result.body c.clear.new.self.items _ _ body c.clear.ensures.items c.clear-2.ensures zero;
       fits = λ r bs is. subst (Fitting is.program) (sym zero) (opened_fits r bs e is (h.counts c.args.holding));
     }
