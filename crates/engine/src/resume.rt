@@ -8,8 +8,7 @@ ghost use Rattle.semantics.specs.declared.values.Value.TheVariants.{Plain};
 ghost use Rattle.tables.specs.View.{view};
 ghost use Rattle.engine.specs.Shape.{want_below, move_below};
 ghost use Rattle.engine.specs.View.{value_of, want_of, move_of};
-ghost use Rattle.engine.specs.declared.frames.Frame.TheVariants.{Loop};
-ghost use Rattle.engine.specs.declared.frames.Move.TheVariants.{Begin, Under, Over, Write};
+ghost use Rattle.engine.specs.declared.frames.Move.TheVariants.{Over, Write};
 
 use crate::begin::wait;
 use crate::figures::{decides, holds, plain_word};
@@ -32,22 +31,12 @@ fn give(figure: Value<Shares>) -> Move
     Move::Over(Signal::Gives(figure))
 }
 
-// A loop goes on with its body where its guard holds.
-fn go_round(n: u16, guard: u16, body: u16, holds: bool) -> Move
-    ensures { result ≡ (if holds then Under (Loop n guard body) body else Over Falls) }
+// A move where a condition holds; elsewhere the node falls through.
+fn guarded(holds: bool, step: Move) -> Move
+    ensures { result ≡ (if holds then step else Over Falls) }
 {
     if holds {
-        Move::Under(Frame::Loop(n, guard, body), body)
-    } else {
-        Move::Over(Signal::Falls)
-    }
-}
-
-fn branch(node: u16, holds: bool) -> Move
-    ensures { result ≡ (if holds then Begin node else Over Falls) }
-{
-    if holds {
-        Move::Begin(node)
+        step
     } else {
         Move::Over(Signal::Falls)
     }
@@ -166,11 +155,14 @@ impl<H: Holding + Drop> Store<H> {
             Want::Release(data_type) => release(n, data_type, self.word(figure)),
             Want::Output(data_type) => output(n, data_type, plain_word(figure)),
             Want::Discard => Move::Over(Signal::Falls),
-            Want::Branch(node) => branch(node, holds(figure)),
+            Want::Branch(node) => guarded(holds(figure), Move::Begin(node)),
             Want::BranchElse(branch, otherwise) => {
                 Move::Begin(if holds(figure) { branch } else { otherwise })
             }
-            Want::Guard(guard, body) => go_round(n, guard, body, holds(figure)),
+            Want::Guard(guard, body) => guarded(
+                holds(figure),
+                Move::Under(Frame::Loop(n, guard, body), body),
+            ),
             Want::Return => Move::Over(Signal::Returns(Some(self.settle(
                 result_level(tables, n),
                 figure,
