@@ -73,9 +73,11 @@ pub(crate) fn make<H: Holding + Drop>(workspace: Workspace, holding: H) -> Machi
     ensures stands { standing H.stands result ≡ opened (view workspace.tables) (H.counts holding) }
     ensures fits { CellsFit (view workspace.tables) result.store }
 {
-    let tables = workspace.tables;
-    let mut stack = workspace.stack;
-    let mut sheet = workspace.sheet;
+    let Workspace {
+        tables,
+        mut stack,
+        mut sheet,
+    } = workspace;
     stack.clear();
     sheet.clear();
     let body = procedure(&tables, main_of(&tables)).body;

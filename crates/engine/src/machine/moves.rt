@@ -86,12 +86,11 @@ impl<H: Holding + Drop> Machine<H> {
     }
 
     // A signal goes up, until a node is about to begin or the run has ended.
-    pub(crate) fn pass(&mut self, handed: Option<Signal<Shares>>)
+    pub(crate) fn pass(&mut self, mut handed: Option<Signal<Shares>>)
         requires { handed_fits (program self.old) (length (entries self.old.control)) handed ≡ true }
         ensures tables { self.new.control.tables ≡ self.old.control.tables }
         ensures stands { standing H.stands self.new ≡ handing H.stands handed self.old }
     {
-        let mut handed = handed;
         while let Some(signal) = handed {
             handed = self.meet(signal);
         }

@@ -49,18 +49,12 @@ impl Sheet {
         if self.lines.len() >= LINES {
             return Err(LinesFull);
         }
-        let Draft {
-            kind,
-            node,
-            data_type,
-            word,
-        } = draft;
         self.lines.push_reserved(Line {
-            kind,
-            node,
+            kind: draft.kind,
+            node: draft.node,
             steps: self.spent,
-            data_type,
-            word,
+            data_type: draft.data_type,
+            word: draft.word,
         });
         Ok(())
     }
