@@ -1,5 +1,3 @@
-pub mod Cleared
-pub mod Stacks
 pub mod Meeting
 pub mod Passing
 pub mod Turning

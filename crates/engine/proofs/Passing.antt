@@ -62,33 +62,6 @@ module _ (e : Environment) where
       let q = running_fits n m fs (ap (λ (z : ℕ). ltb z n) body ∙ p.0) (ap (λ (gs : List Entry). depth_fits e n (length gs)) f ∙ p.1) (sym (ap (λ (z : Environment). stack_fits z fs) t) ∙ k) in
       (ap (λ (z : Environment). stack_fits z (Framed (Running n) ∷ fs)) t ∙ q.0, ap (λ (z : Environment). depth_fits z m (suc (length fs))) t ∙ q.1)
 
-  -- one figure more waits
-  pub passes_fits : (x : Value Shares) (m : ℕ) (es : List Entry) → in_call es ≡ true → depth_fits e (suc m) (length es) ≡ true → stack_fits e es ≡ true → stack_fits e (Passed x ∷ es) ≡ true
-  unfolding stack_fits
-  passes_fits x m es i d h =
-      let lt = ltb-true (suc m + length es) (length e.nodes) d in
-      and_from (in_call es && depth_fits e 0 (length es)) (stack_fits e es) (and_from (in_call es) (depth_fits e 0 (length es)) i (lt-ltb (0 + length es) (length e.nodes) (omega (arith, lt)))) h
-
-pub passed_in_call : (x : Value Shares) (es fs : List Entry) → es ≡ Passed x ∷ fs → in_call es ≡ true → in_call fs ≡ true
-unfolding in_call
-passed_in_call x es fs h i = sym (ap in_call h) ∙ i
-
-pub framed_in_call : (f : Frame) (es fs : List Entry) → es ≡ Framed f ∷ fs → in_call es ≡ true → (n : ℕ) × (g : ℕ) × (f ≡ Calling n g)
-unfolding in_call
-framed_in_call f es fs h i = is_call f (sym (ap in_call h) ∙ i)
-
-pub none_in_call : (es : List Entry) → es ≡ [] → in_call es ≡ true → ⊥
-unfolding in_call
-none_in_call es h i = false≢true (sym (ap in_call h) ∙ i)
-
-pub passed_call : (x : Value Shares) (es fs : List Entry) → es ≡ Passed x ∷ fs → (call_of es ≡ call_of fs) × (under_call es ≡ under_call fs)
-unfolding call_of under_call
-passed_call x es fs h = (ap call_of h, ap under_call h)
-
-pub framed_call : (f : Frame) (es fs : List Entry) → es ≡ Framed f ∷ fs → (call_of es ≡ f) × (under_call es ≡ fs)
-unfolding call_of under_call
-framed_call f es fs h = (ap call_of h, ap under_call h)
-
 -- ---- the parameters
 
 pub bound_more : (e : Environment) (v : ℕ) (xs : List (Value ℕ)) (x : Value ℕ) (k : Kept) → bound e v (xs ++ x ∷ []) k ≡ stored (v + length xs) (level_at e (v + length xs)) x (bound e v xs k)
@@ -100,21 +73,9 @@ bound_more e v (y ∷ xs) x k =
     ∙ ap (λ (i : ℕ). stored i (level_at e i) x (bound e (suc v) xs (stored v (level_at e v) y k))) same
 
 module _ (stands : Shares → ℕ) where
-  pub no_figures : (es fs : List Entry) (f : Frame) → es ≡ Framed f ∷ fs → passed stands es ≡ []
-  unfolding passed
-  no_figures es fs f h = ap (passed stands) h
-
   pub more_figures : (x : Value Shares) (es fs : List Entry) → es ≡ Passed x ∷ fs → passed stands es ≡ passed stands fs ++ value_of stands x ∷ []
   unfolding passed
   more_figures x es fs h = ap (passed stands) h
-
-  -- no parameter is set yet, and one more
-  pub bound_none : (e o : Environment) (g q : ℕ) (f : Frame) (es fs : List Entry) (k : Kept) → o ≡ e → es ≡ Framed f ∷ fs → q ≡ (procedure o g).first_parameter → (q ≡ (procedure e g).first_parameter + length (passed stands es)) × (k ≡ bound e (procedure e g).first_parameter (passed stands es) k)
-  unfolding bound
-  bound_none e o g q f es fs k t h p = (
-    p ∙ ap (λ (i : Environment). (procedure i g).first_parameter) t ∙ sym (add-zero (procedure e g).first_parameter) ∙ sym (ap (λ (xs : List (Value ℕ)). (procedure e g).first_parameter + length xs) (no_figures es fs f h)),
-    sym (ap (λ (xs : List (Value ℕ)). bound e (procedure e g).first_parameter xs k) (no_figures es fs f h)),
-  )
 
   pub bound_one : (e o i : Environment) (g q : ℕ) (x : Value Shares) (es fs : List Entry) (k j l : Kept) → o ≡ e → i ≡ e → es ≡ Passed x ∷ fs → q ≡ (procedure o g).first_parameter + length (passed stands fs) → j ≡ bound o (procedure o g).first_parameter (passed stands fs) k → l ≡ stored q (level_at i q) (value_of stands x) j → (q + 1 ≡ (procedure e g).first_parameter + length (passed stands es)) × (l ≡ bound e (procedure e g).first_parameter (passed stands es) k)
   bound_one e o i g q x es fs k j l t u h p b m =

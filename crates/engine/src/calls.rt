@@ -26,6 +26,7 @@ impl<H: Holding + Drop> Store<H> {
     }
 
     // The locals of a procedure become 0, in the order of their numbers.
+    #[tactic(auto, unfolding(semantics::specs::State::cleared))]
     fn clear(&mut self, variables: &[Variable], number: u16)
         ensures { self.new ≡ cleared number 0 variables.now self.old }
     {

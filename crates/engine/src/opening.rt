@@ -43,6 +43,7 @@ pub(crate) fn check<L: Levels>(
 
 impl<H: Holding + Drop> Store<H> {
     // Every cell is 0: those of the variables are set so in order, and put in where their level is not public.
+    #[tactic(auto, unfolding(semantics::specs::Opening::zeroed))]
     fn all_zero(holding: H, variables: &[Variable]) -> Store<H>
         ensures { result ≡ zeroed 0 variables.now (unset (H.counts holding)) }
     {
@@ -67,6 +68,7 @@ pub(crate) fn main_of(tables: &Tables) -> u16
 }
 
 // A machine of its own tables, about to begin its main procedure. Its cells fit the levels of their variables.
+#[tactic(auto, unfolding(crate::specs::Shape::stack_fits, crate::specs::View::frames_of))]
 pub(crate) fn make<H: Holding + Drop>(workspace: Workspace, holding: H) -> Machine<H>
     requires { Ready (view workspace.tables) }
     ensures program { program result ≡ view workspace.tables }

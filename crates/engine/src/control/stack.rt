@@ -47,6 +47,7 @@ impl Control {
         self.next = Next::Begin(node);
     }
 
+    #[tactic(auto, unfolding(crate::specs::Shape::stack_fits))]
     pub(crate) fn pop(&mut self) -> Option<Entry>
         ensures tables { self.new.tables ≡ self.old.tables }
         ensures entries { Popped result (entries self.old) (entries self.new) }
@@ -61,6 +62,7 @@ impl Control {
     }
 
     // Whether the top belongs to a call whose arguments run.
+    #[tactic(auto, unfolding(crate::specs::Shape::stack_fits, crate::specs::Shape::in_call))]
     pub(crate) fn in_call(&self) -> bool
         ensures { result ≡ in_call (entries self.now) }
     {

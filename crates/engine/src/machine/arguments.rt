@@ -35,6 +35,7 @@ impl<H: Holding + Drop> Machine<H> {
     }
 
     // Takes the call on top with the figures above it off the stack, and sets its parameters to them.
+    #[tactic(auto, unfolding(crate::specs::Shape::in_call, crate::specs::Passing::call_of, crate::specs::Passing::under_call, crate::specs::Passing::passed, semantics::specs::State::bound))]
     fn bind(&mut self) -> Call
         requires { in_call (entries self.old.control) ≡ true }
         ensures tables { self.new.control.tables ≡ self.old.control.tables }
@@ -81,6 +82,7 @@ impl<H: Holding + Drop> Machine<H> {
     }
 
     // The figure of an argument comes to its call, which goes on with the next.
+    #[tactic(auto, unfolding(crate::specs::Shape::stack_fits))]
     pub(crate) fn pass_figure(&mut self, figure: Value<Shares>, next: Option<u16>)
         requires call { in_call (entries self.old.control) ≡ true }
         requires fits { argument_fits (program self.old) (length (entries self.old.control)) next ≡ true }

@@ -1,19 +1,11 @@
-use Rattle.std.proofs.Common.{◌≡◌, ℕ, true, length, Option, sym, ap, ◌∙◌, subst}
+use Rattle.std.proofs.Common.{ℕ, Option, sym, ap, ◌∙◌}
 use Rattle.semantics.specs.Machine as model
 use Rattle.semantics.specs.declared.values.Signal.TheVariants.{Argues}
-use Rattle.tables.specs.View.{view}
-use Rattle.engine.specs.Shape.{argument_fits}
 use Rattle.engine.specs.Standing.{entries}
 use Rattle.engine.specs.View.{value_of}
 use Rattle.engine.specs.Running.{program, frames}
-use Rattle.engine.proofs.Passing.{passes_fits, next_argument}
+use Rattle.engine.proofs.Passing.{next_argument}
 use Rattle.engine.proofs.machine.Machine.pass_figure.Goals as goal
-
-pub push-requires-clause-fits : goal.push-requires-clause-fits
-push-requires-clause-fits g c =
-    let s = c.args.self.now.control in
-    let e = view s.tables in
-    passes_fits e c.args.figure c.in-Some.argument (entries s) c.requires.call (subst (λ (o : Option ℕ). argument_fits e (length (entries s)) o ≡ true) c.in-Some.is c.requires.fits) s.fits
 
 pub returns-in-Some-clause-stands : goal.returns-in-Some-clause-stands
 returns-in-Some-clause-stands g c =

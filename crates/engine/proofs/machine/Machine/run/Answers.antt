@@ -1,17 +1,11 @@
-use Rattle.std.proofs.Common.{◌≡◌, ℕ, ◌+◌, ◌-◌, ◌<◌, refl, ap, ◌∙◌, arith, rules}
+use Rattle.std.proofs.Common.{◌≡◌, ℕ, ◌+◌, ◌-◌, ◌<◌, ap, ◌∙◌, arith, rules}
 use Rattle.typing.specs.Environment.{Environment}
 use Rattle.semantics.specs.Machine as model
 use Rattle.semantics.proofs.Theorems.{machine_follows, turns_add}
 use Rattle.tables.specs.View.{view}
 use Rattle.engine.specs.Running.{program, frames, standing}
-use Rattle.engine.proofs.Turning.{run_none, run_more, run_ended}
+use Rattle.engine.proofs.Turning.{run_more, run_ended}
 use Rattle.engine.proofs.machine.Machine.run.Goals as goal
-
-pub loop-init : goal.loop-init
-loop-init g c =
-    let h = g.H.Holding in
-    let m = c.args.self.now in
-    (refl, run_none (program m) (standing h.stands m), omega arith)
 
 pub loop-preserved : goal.loop-preserved
 loop-preserved g c =
