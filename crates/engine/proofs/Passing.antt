@@ -1,15 +1,14 @@
 -- The figures that were passed to a call, and the parameters that they become.
-use Rattle.std.proofs.Common.{◌≡◌, ℕ, suc, ◌+◌, true, ◌&&◌, ltb, List, [], ◌∷◌, ◌++◌, length, Some, None, sym, refl, ap, ◌∙◌, add-zero, arith, length-append}
+use Rattle.std.proofs.Common.{◌≡◌, ℕ, suc, ◌+◌, true, List, [], ◌∷◌, ◌++◌, length, Some, None, sym, refl, ap, ◌∙◌, add-zero, arith}
 use mathlib.Core.Bool.{false≢true}
 use Rattle.std.proofs.lemmas.List.{append-nil, append_assoc}
-use Rattle.std.proofs.lemmas.Bool.{and_parts, and_from, ltb-true, lt-ltb}
 use Rattle.holding.specs.declared.shares.Shares.{Shares}
 use Rattle.typing.specs.Environment.{Environment}
 use Rattle.semantics.specs.Machine as model
 use Rattle.semantics.specs.State.{Shown, Kept, procedure, level_at, stored, bound, cleared, entered}
 use Rattle.semantics.specs.declared.values.Signal.TheVariants.{Argues}
 use Rattle.semantics.specs.declared.values.Value.{Value}
-use Rattle.engine.specs.Shape.{number, is_calling, in_call, frame_below, depth_fits, stack_fits}
+use Rattle.engine.specs.Shape.{is_calling, in_call}
 use Rattle.engine.specs.Passing.{call_of, under_call, passed}
 use Rattle.engine.specs.Running.{config_of}
 use Rattle.engine.specs.View.{value_of, frame_of, frames_of}
@@ -38,30 +37,6 @@ is_call (Running n) h = absurd (false≢true h)
 pub in_call_is : (es : List Entry) → in_call es ≡ true → (n : ℕ) × (g : ℕ) × (call_of es ≡ Calling n g)
 in_call_is es h = is_call (call_of es) (calls es h)
 
-module _ (e : Environment) where
-  pub call_fits : (es : List Entry) (n g : ℕ) → in_call es ≡ true → call_of es ≡ Calling n g → stack_fits e es ≡ true → (ltb (procedure e g).body n ≡ true) × (depth_fits e n (length (under_call es)) ≡ true)
-  unfolding in_call call_of under_call stack_fits
-  call_fits [] n g i c h = absurd (false≢true i)
-  call_fits (Framed f ∷ es) n g i c h =
-      let p = and_parts (frame_below e f) (depth_fits e (number f) (length es)) (and_parts (frame_below e f && depth_fits e (number f) (length es)) (stack_fits e es) h).0 in
-      (sym (ap (frame_below e) c) ∙ p.0, sym (ap (λ (x : Frame). depth_fits e (number x) (length es)) c) ∙ p.1)
-  call_fits (Passed x ∷ es) n g i c h = call_fits es n g i c (and_parts (in_call es && depth_fits e 0 (length es)) (stack_fits e es) h).1
-
-  pub running_fits : (n m : ℕ) (es : List Entry) → ltb m n ≡ true → depth_fits e n (length es) ≡ true → stack_fits e es ≡ true → (stack_fits e (Framed (Running n) ∷ es) ≡ true) × (depth_fits e m (suc (length es)) ≡ true)
-  unfolding stack_fits
-  running_fits n m es b d h = (
-    and_from (true && depth_fits e n (length es)) (stack_fits e es) d h,
-    lt-ltb (m + suc (length es)) (length e.nodes) (omega (arith, ltb-true m n b, ltb-true (n + length es) (length e.nodes) d)),
-  )
-
-  -- the procedure of the call may begin
-  pub enter_fits : (o : Environment) (n g m : ℕ) (es fs : List Entry) → o ≡ e → in_call es ≡ true → call_of es ≡ Calling n g → fs ≡ under_call es → m ≡ (procedure o g).body → stack_fits e es ≡ true → stack_fits o fs ≡ true → (stack_fits o (Framed (Running n) ∷ fs) ≡ true) × (depth_fits o m (suc (length fs)) ≡ true)
-  enter_fits o n g m es fs t i c f b h k =
-      let p = call_fits es n g i c h in
-      let body : m ≡ (procedure e g).body = b ∙ ap (λ (z : Environment). (procedure z g).body) t in
-      let q = running_fits n m fs (ap (λ (z : ℕ). ltb z n) body ∙ p.0) (ap (λ (gs : List Entry). depth_fits e n (length gs)) f ∙ p.1) (sym (ap (λ (z : Environment). stack_fits z fs) t) ∙ k) in
-      (ap (λ (z : Environment). stack_fits z (Framed (Running n) ∷ fs)) t ∙ q.0, ap (λ (z : Environment). depth_fits z m (suc (length fs))) t ∙ q.1)
-
 -- ---- the parameters
 
 pub bound_more : (e : Environment) (v : ℕ) (xs : List (Value ℕ)) (x : Value ℕ) (k : Kept) → bound e v (xs ++ x ∷ []) k ≡ stored (v + length xs) (level_at e (v + length xs)) x (bound e v xs k)
@@ -73,25 +48,6 @@ bound_more e v (y ∷ xs) x k =
     ∙ ap (λ (i : ℕ). stored i (level_at e i) x (bound e (suc v) xs (stored v (level_at e v) y k))) same
 
 module _ (stands : Shares → ℕ) where
-  pub more_figures : (x : Value Shares) (es fs : List Entry) → es ≡ Passed x ∷ fs → passed stands es ≡ passed stands fs ++ value_of stands x ∷ []
-  unfolding passed
-  more_figures x es fs h = ap (passed stands) h
-
-  pub bound_one : (e o i : Environment) (g q : ℕ) (x : Value Shares) (es fs : List Entry) (k j l : Kept) → o ≡ e → i ≡ e → es ≡ Passed x ∷ fs → q ≡ (procedure o g).first_parameter + length (passed stands fs) → j ≡ bound o (procedure o g).first_parameter (passed stands fs) k → l ≡ stored q (level_at i q) (value_of stands x) j → (q + 1 ≡ (procedure e g).first_parameter + length (passed stands es)) × (l ≡ bound e (procedure e g).first_parameter (passed stands es) k)
-  bound_one e o i g q x es fs k j l t u h p b m =
-      let v = (procedure e g).first_parameter in
-      let xs = passed stands fs in
-      let more = more_figures x es fs h in
-      let at : q ≡ v + length xs = p ∙ ap (λ (z : Environment). (procedure z g).first_parameter + length xs) t in (
-        omega (arith, at, ap length more, length-append xs (value_of stands x ∷ [])),
-        m
-            ∙ ap (λ (z : Environment). stored q (level_at z q) (value_of stands x) j) u
-            ∙ ap (λ (z : ℕ). stored z (level_at e z) (value_of stands x) j) at
-            ∙ ap (stored (v + length xs) (level_at e (v + length xs)) (value_of stands x)) (b ∙ ap (λ (z : Environment). bound z (procedure z g).first_parameter xs k) t)
-            ∙ sym (bound_more e v xs (value_of stands x) k)
-            ∙ sym (ap (λ (ys : List (Value ℕ)). bound e v ys k) more),
-      )
-
   gathered : (es : List Entry) (ys : List (Value ℕ)) (n g : ℕ) → in_call es ≡ true → call_of es ≡ Calling n g → frames_of stands ys es ≡ model.calling n g (passed stands es ++ ys) ∷ frames_of stands [] (under_call es)
   unfolding in_call call_of under_call passed frames_of
   gathered [] ys n g i c = absurd (false≢true i)
