@@ -81,12 +81,12 @@ module _ (stands : Shares → ℕ) where
       ∙ sym (argued_is e es n g (value_of stands x) None s k i c)
 
   -- what is kept once the last parameter is set and the locals are 0
-  pub entered_by : (e o i : Environment) (g q : ℕ) (x : Value Shares) (es : List Entry) (k j l m : Kept) → o ≡ e → i ≡ e → q ≡ (procedure e g).first_parameter + length (passed stands es) → j ≡ bound e (procedure e g).first_parameter (passed stands es) k → l ≡ stored q (level_at o q) (value_of stands x) j → m ≡ cleared g 0 i.variables l → m ≡ entered e g (passed stands es ++ value_of stands x ∷ []) k
-  entered_by e o i g q x es k j l m t u p b st cl =
+  pub entered_by : (e o : Environment) (g q : ℕ) (x : Value Shares) (es : List Entry) (k j l m : Kept) → o ≡ e → q ≡ (procedure e g).first_parameter + length (passed stands es) → j ≡ bound e (procedure e g).first_parameter (passed stands es) k → l ≡ stored q (level_at o q) (value_of stands x) j → m ≡ cleared g 0 o.variables l → m ≡ entered e g (passed stands es ++ value_of stands x ∷ []) k
+  entered_by e o g q x es k j l m t p b st cl =
       let v = (procedure e g).first_parameter in
       let xs = passed stands es in
       cl
-      ∙ ap (λ (z : Environment). cleared g 0 z.variables l) u
+      ∙ ap (λ (z : Environment). cleared g 0 z.variables l) t
       ∙ ap (cleared g 0 e.variables)
       (st
       ∙ ap (λ (z : Environment). stored q (level_at z q) (value_of stands x) j) t

@@ -30,16 +30,6 @@ pub(crate) fn wait(n: u16, want: Want<Shares>, node: u16) -> Move
 }
 
 impl<H: Holding + Drop> Store<H> {
-    // The definition of a local sets its cell to 0.
-    fn define(&mut self, tables: &Tables, variable: u16) -> Move
-        ensures answer { result ≡ Over Falls }
-        ensures kept { self.new ≡ stored variable (level_at (view tables.now) variable) (Plain 0) self.old }
-    {
-        let level = tables.variable_level(variable as usize);
-        self.set(variable as usize, level, Value::Plain(0));
-        Move::Over(Signal::Falls)
-    }
-
     // The move of node `n` as it begins.
     #[tactic(auto, unfolding(semantics::specs::Machine::begins))]
     fn begin_node(&mut self, tables: &Tables, n: u16, node: Node) -> Move
@@ -97,7 +87,10 @@ impl<H: Holding + Drop> Store<H> {
             Node::ReturnVoid => Move::Over(Signal::Returns(None)),
             Node::Break => Move::Over(Signal::Breaks),
             Node::Continue => Move::Over(Signal::Continues),
-            Node::Definition { variable } => self.define(tables, variable),
+            Node::Definition { variable } => {
+                self.assign(tables, variable as usize, Value::Plain(0));
+                Move::Over(Signal::Falls)
+            }
             Node::Output { operand } => wait(
                 n,
                 Want::Output(figure_type(tables, operand)),

@@ -16,22 +16,15 @@ use semantics::values::Value;
 use tables::tables::Tables;
 
 impl<H: Holding + Drop> Store<H> {
-    // A variable becomes 0 if it is a local of the procedure.
-    fn clear_local(&mut self, i: usize, variable: Variable, number: u16)
-        ensures { self.new ≡ (if is_local_of number variable.role then stored i variable.level (Plain 0) self.old else self.old) }
-    {
-        if variable.role == (Role::Local { procedure: number }) {
-            self.set(i, variable.level, Value::Plain(0));
-        }
-    }
-
     // The locals of a procedure become 0, in the order of their numbers.
     #[tactic(auto, unfolding(semantics::specs::State::cleared))]
     fn clear(&mut self, variables: &[Variable], number: u16)
         ensures { self.new ≡ cleared number 0 variables.now self.old }
     {
         for (i, variable) in variables.iter().enumerate() {
-            self.clear_local(i, *variable, number);
+            if variable.role == (Role::Local { procedure: number }) {
+                self.set(i, variable.level, Value::Plain(0));
+            }
         }
     }
 

@@ -119,14 +119,6 @@ impl<H: Holding + Drop> Store<H> {
         }
     }
 
-    fn assign(&mut self, tables: &Tables, variable: u16, figure: Value<Shares>) -> Value<Shares>
-        ensures value { value_of H.stands result ≡ settled (level_at (view tables.now) variable) (value_of H.stands figure) }
-        ensures kept { self.new ≡ stored variable (level_at (view tables.now) variable) (value_of H.stands figure) self.old }
-    {
-        let variable = variable as usize;
-        self.set(variable, tables.variable_level(variable), figure)
-    }
-
     // The move of node `n`, which gets the value that it waits for.
     #[tactic(auto, unfolding(semantics::specs::Machine::got))]
     pub(crate) fn resume(
@@ -150,7 +142,7 @@ impl<H: Holding + Drop> Store<H> {
                 if holds(figure) { chosen } else { otherwise },
             ),
             Want::Chosen => give(self.settle(tables.level(n), figure)),
-            Want::Assign(variable) => give(self.assign(tables, variable, figure)),
+            Want::Assign(variable) => give(self.assign(tables, variable as usize, figure)),
             Want::Argue(next) => Move::Over(Signal::Argues(figure, next)),
             Want::Release(data_type) => release(n, data_type, self.word(figure)),
             Want::Output(data_type) => output(n, data_type, plain_word(figure)),

@@ -25,15 +25,6 @@ pub struct Call {
 }
 
 impl<H: Holding + Drop> Machine<H> {
-    fn set_parameter(&mut self, parameter: usize, figure: Value<Shares>)
-        ensures control { self.new.control ≡ self.old.control }
-        ensures sheet { self.new.sheet ≡ self.old.sheet }
-        ensures kept { self.new.store ≡ stored parameter (level_at (program self.old) parameter) (value_of H.stands figure) self.old.store }
-    {
-        let level = self.control.tables.variable_level(parameter);
-        self.store.set(parameter, level, figure);
-    }
-
     // Takes the call on top with the figures above it off the stack, and sets its parameters to them.
     #[tactic(auto, using(crate::proofs::Passing::bound_more), unfolding(crate::specs::Shape::stack_fits, crate::specs::Shape::in_call, crate::specs::Passing::call_of, crate::specs::Passing::under_call, crate::specs::Passing::passed, semantics::specs::State::bound))]
     fn bind(&mut self) -> Call
@@ -51,7 +42,8 @@ impl<H: Holding + Drop> Machine<H> {
         match self.control.pop() {
             Some(Entry::Passed(figure)) => {
                 let call = self.bind();
-                self.set_parameter(call.parameter, figure);
+                self.store
+                    .assign(&self.control.tables, call.parameter, figure);
                 Call {
                     parameter: call.parameter + 1,
                     ..call
@@ -78,7 +70,8 @@ impl<H: Holding + Drop> Machine<H> {
         ensures stands { standing H.stands self.new ≡ handing H.stands (Some (Argues figure None)) self.old }
     {
         let call = self.bind();
-        self.set_parameter(call.parameter, figure);
+        self.store
+            .assign(&self.control.tables, call.parameter, figure);
         let body = self.store.enter(&self.control.tables, call.procedure);
         self.control
             .push(Entry::Frame(Frame::Running(call.node)), body);
