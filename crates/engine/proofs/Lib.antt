@@ -1,6 +1,3 @@
-pub mod Numbered
-pub mod Cleared
-pub mod Stacks
 pub mod Meeting
 pub mod Passing
 pub mod Turning

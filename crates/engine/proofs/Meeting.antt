@@ -1,34 +1,23 @@
 -- A signal meets the entry on top of a stack.
-use Rattle.std.proofs.Common.{◌≡◌, ℕ, suc, ◌<◌, Bool, true, false, ◌&&◌, List, [], ◌∷◌, length, Some, None, Option, sym, refl, ap, ◌∙◌, subst, true≢false}
-use Rattle.std.proofs.lemmas.Bool.{and_parts, and_from}
+use Rattle.std.proofs.Common.{◌≡◌, ℕ, Bool, true, false, ◌&&◌, List, [], ◌∷◌, length, sym, refl, ap, ◌∙◌, true≢false}
+use Rattle.std.proofs.lemmas.Bool.{and_parts}
 use Rattle.holding.specs.declared.shares.Shares.{Shares}
 use Rattle.typing.specs.Environment.{Environment}
 use Rattle.semantics.specs.Machine as model
 use Rattle.semantics.specs.State.{Shown, Kept}
-use Rattle.semantics.specs.declared.lines.Outcome.TheVariants.{Finished}
 use Rattle.semantics.specs.declared.values.Signal.{Signal}
 use Rattle.semantics.specs.declared.values.Signal.TheVariants.{Gives, Argues, Falls, Returns, Breaks, Continues}
 use Rattle.semantics.specs.declared.values.Value.{Value}
-use Rattle.engine.specs.Shape.{number, is_argument, is_calling, in_call, frame_below, depth_fits, stack_fits, signal_fits, move_fits}
+use Rattle.engine.specs.Shape.{number, is_argument, in_call, frame_below, depth_fits, stack_fits}
 use Rattle.engine.specs.View.{value_of, signal_of, frame_of, frames_of}
-use Rattle.engine.specs.Running.{config_of, HandedSame, HandedLess}
 use Rattle.engine.specs.declared.frames.Entry.{Entry}
 use Rattle.engine.specs.declared.frames.Entry.TheVariants.{Frame as Framed, Passed}
 use Rattle.engine.specs.declared.frames.Frame.{Frame}
 use Rattle.engine.specs.declared.frames.Frame.TheVariants.{Wait, Then, Loop, Calling, Running}
-use Rattle.engine.specs.declared.frames.Move.TheVariants.{Under}
-use Rattle.engine.specs.declared.frames.Next.{Next}
-use Rattle.engine.specs.declared.frames.Next.TheVariants.{Begin, Ended}
 
 -- ---- what fits
 
 module _ (e : Environment) where
-  pub push_fits : (f : Frame) (n : ℕ) (es : List Entry) → move_fits e (length es) (Under f n) ≡ true → stack_fits e es ≡ true → (stack_fits e (Framed f ∷ es) ≡ true) × (depth_fits e n (suc (length es)) ≡ true)
-  unfolding stack_fits
-  push_fits f n es h k =
-      let p = and_parts (frame_below e f && depth_fits e (number f) (length es)) (depth_fits e n (suc (length es))) h in
-      (and_from (frame_below e f && depth_fits e (number f) (length es)) (stack_fits e es) p.0 k, p.1)
-
   pub framed_fits : (f : Frame) (es fs : List Entry) → es ≡ Framed f ∷ fs → stack_fits e es ≡ true → (frame_below e f ≡ true) × (depth_fits e (number f) (length fs) ≡ true)
   unfolding stack_fits
   framed_fits f es fs h k =
@@ -39,10 +28,6 @@ module _ (e : Environment) where
   passed_fits x es fs h k =
       ap in_call h ∙ (and_parts (in_call fs) (depth_fits e 0 (length fs)) (and_parts (in_call fs && depth_fits e 0 (length fs)) (stack_fits e fs) (sym (ap (stack_fits e) h) ∙ k)).0).0
 
-pub framed_apart : (z : Signal Shares) (f : Frame) (es fs : List Entry) → es ≡ Framed f ∷ fs → (is_argument z && in_call es) ≡ false → (is_argument z && is_calling f) ≡ false
-unfolding in_call
-framed_apart z f es fs h k = sym (ap (λ (xs : List Entry). is_argument z && in_call xs) h) ∙ k
-
 pub no_argument : (a c : Bool) → c ≡ true → (a && c) ≡ false → a ≡ false
 no_argument true c h k = absurd (true≢false (sym h ∙ k))
 no_argument false c h k = refl
@@ -50,15 +35,6 @@ no_argument false c h k = refl
 -- ---- where the machine stands then
 
 module _ (stands : Shares → ℕ) where
-  pub pushed_stands : (next : Next) (n : ℕ) (f : Frame) (es fs : List Entry) (s : Shown) (k : Kept) → next ≡ Begin n → fs ≡ Framed f ∷ es → config_of next (frames_of stands [] fs) s k ≡ model.at n (frame_of stands [] f ∷ frames_of stands [] es) s k
-  unfolding frames_of
-  pushed_stands next n f es fs s k p q = ap (λ (x : Next). config_of x (frames_of stands [] fs) s k) p ∙ ap (λ (gs : List Entry). model.at n (frames_of stands [] gs) s k) q
-
-  pub emptied : (e : Environment) (next : Next) (es fs : List Entry) (z : Signal Shares) (s : Shown) (k : Kept) → next ≡ Ended Finished → es ≡ [] → config_of next (frames_of stands [] fs) s k ≡ model.pass e (frames_of stands [] es) (signal_of stands z) s k
-  unfolding frames_of model.pass
-  emptied e next es fs z s k p q =
-      ap (λ (x : Next). config_of x (frames_of stands [] fs) s k) p ∙ sym (ap (λ (gs : List Entry). model.pass e (frames_of stands [] gs) (signal_of stands z) s k) q)
-
   pub met : (e o : Environment) (f : Frame) (es fs : List Entry) (z : Signal Shares) (s : Shown) (k : Kept) (v : model.Move) → o ≡ e → es ≡ Framed f ∷ fs → v ≡ model.meets o (frame_of stands [] f) (signal_of stands z) k → model.drive o (frames_of stands [] fs) (model.pass o (frames_of stands [] fs)) s v ≡ model.pass e (frames_of stands [] es) (signal_of stands z) s k
   unfolding frames_of model.pass
   met e o f es fs z s k v t h m =
@@ -88,17 +64,3 @@ module _ (stands : Shares → ℕ) where
       ap (λ (i : Environment). model.pass i (frames_of stands [] fs) (signal_of stands z) s k) t
       ∙ pass_any e fs [] (value_of stands x ∷ []) z s k n
       ∙ sym (ap (λ (gs : List Entry). model.pass e (frames_of stands [] gs) (signal_of stands z) s k) h)
-
--- ---- what goes on up
-
-pub signal_less : (e : Environment) (z : Signal Shares) (depth : ℕ) → is_argument z ≡ false → signal_fits e depth z ≡ true
-signal_less e (Gives x) depth h = refl
-signal_less e (Argues x next) depth h = absurd (true≢false h)
-signal_less e Falls depth h = refl
-signal_less e (Returns x) depth h = refl
-signal_less e Breaks depth h = refl
-signal_less e Continues depth h = refl
-
-pub handed_less : (o : Option (Signal Shares)) (es fs gs : List Entry) → length fs < length es → HandedSame o fs gs → HandedLess o es gs
-handed_less None es fs gs lt h = tt
-handed_less (Some z) es fs gs lt h = subst (λ (xs : List Entry). length xs < length es) (sym h) lt

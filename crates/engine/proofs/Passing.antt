@@ -1,15 +1,14 @@
 -- The figures that were passed to a call, and the parameters that they become.
-use Rattle.std.proofs.Common.{◌≡◌, ℕ, suc, ◌+◌, ◌<◌, true, ◌&&◌, ltb, List, [], ◌∷◌, ◌++◌, length, Some, None, sym, refl, ap, ◌∙◌, add-zero, arith, length-append}
+use Rattle.std.proofs.Common.{◌≡◌, ℕ, suc, ◌+◌, true, List, [], ◌∷◌, ◌++◌, length, Some, None, sym, refl, ap, ◌∙◌, add-zero, arith}
 use mathlib.Core.Bool.{false≢true}
 use Rattle.std.proofs.lemmas.List.{append-nil, append_assoc}
-use Rattle.std.proofs.lemmas.Bool.{and_parts, and_from, ltb-true, lt-ltb}
 use Rattle.holding.specs.declared.shares.Shares.{Shares}
 use Rattle.typing.specs.Environment.{Environment}
 use Rattle.semantics.specs.Machine as model
 use Rattle.semantics.specs.State.{Shown, Kept, procedure, level_at, stored, bound, cleared, entered}
 use Rattle.semantics.specs.declared.values.Signal.TheVariants.{Argues}
 use Rattle.semantics.specs.declared.values.Value.{Value}
-use Rattle.engine.specs.Shape.{number, is_calling, in_call, frame_below, depth_fits, stack_fits}
+use Rattle.engine.specs.Shape.{is_calling, in_call}
 use Rattle.engine.specs.Passing.{call_of, under_call, passed}
 use Rattle.engine.specs.Running.{config_of}
 use Rattle.engine.specs.View.{value_of, frame_of, frames_of}
@@ -38,65 +37,6 @@ is_call (Running n) h = absurd (false≢true h)
 pub in_call_is : (es : List Entry) → in_call es ≡ true → (n : ℕ) × (g : ℕ) × (call_of es ≡ Calling n g)
 in_call_is es h = is_call (call_of es) (calls es h)
 
-module _ (e : Environment) where
-  pub call_fits : (es : List Entry) (n g : ℕ) → in_call es ≡ true → call_of es ≡ Calling n g → stack_fits e es ≡ true → (ltb (procedure e g).body n ≡ true) × (depth_fits e n (length (under_call es)) ≡ true)
-  unfolding in_call call_of under_call stack_fits
-  call_fits [] n g i c h = absurd (false≢true i)
-  call_fits (Framed f ∷ es) n g i c h =
-      let p = and_parts (frame_below e f) (depth_fits e (number f) (length es)) (and_parts (frame_below e f && depth_fits e (number f) (length es)) (stack_fits e es) h).0 in
-      (sym (ap (frame_below e) c) ∙ p.0, sym (ap (λ (x : Frame). depth_fits e (number x) (length es)) c) ∙ p.1)
-  call_fits (Passed x ∷ es) n g i c h = call_fits es n g i c (and_parts (in_call es && depth_fits e 0 (length es)) (stack_fits e es) h).1
-
-  pub running_fits : (n m : ℕ) (es : List Entry) → ltb m n ≡ true → depth_fits e n (length es) ≡ true → stack_fits e es ≡ true → (stack_fits e (Framed (Running n) ∷ es) ≡ true) × (depth_fits e m (suc (length es)) ≡ true)
-  unfolding stack_fits
-  running_fits n m es b d h = (
-    and_from (true && depth_fits e n (length es)) (stack_fits e es) d h,
-    lt-ltb (m + suc (length es)) (length e.nodes) (omega (arith, ltb-true m n b, ltb-true (n + length es) (length e.nodes) d)),
-  )
-
-  -- the procedure of the call may begin
-  pub enter_fits : (o : Environment) (n g m : ℕ) (es fs : List Entry) → o ≡ e → in_call es ≡ true → call_of es ≡ Calling n g → fs ≡ under_call es → m ≡ (procedure o g).body → stack_fits e es ≡ true → stack_fits o fs ≡ true → (stack_fits o (Framed (Running n) ∷ fs) ≡ true) × (depth_fits o m (suc (length fs)) ≡ true)
-  enter_fits o n g m es fs t i c f b h k =
-      let p = call_fits es n g i c h in
-      let body : m ≡ (procedure e g).body = b ∙ ap (λ (z : Environment). (procedure z g).body) t in
-      let q = running_fits n m fs (ap (λ (z : ℕ). ltb z n) body ∙ p.0) (ap (λ (gs : List Entry). depth_fits e n (length gs)) f ∙ p.1) (sym (ap (λ (z : Environment). stack_fits z fs) t) ∙ k) in
-      (ap (λ (z : Environment). stack_fits z (Framed (Running n) ∷ fs)) t ∙ q.0, ap (λ (z : Environment). depth_fits z m (suc (length fs))) t ∙ q.1)
-
-  pub passed_short : (x : Value Shares) (es fs : List Entry) → es ≡ Passed x ∷ fs → stack_fits e es ≡ true → length fs < length e.nodes
-  unfolding stack_fits
-  passed_short x es fs h k =
-      let d = (and_parts (in_call fs) (depth_fits e 0 (length fs)) (and_parts (in_call fs && depth_fits e 0 (length fs)) (stack_fits e fs) (sym (ap (stack_fits e) h) ∙ k)).0).1 in
-      omega (arith, ltb-true (0 + length fs) (length e.nodes) d)
-
-  -- one figure more waits
-  pub passes_fits : (x : Value Shares) (m : ℕ) (es : List Entry) → in_call es ≡ true → depth_fits e (suc m) (length es) ≡ true → stack_fits e es ≡ true → (stack_fits e (Passed x ∷ es) ≡ true) × (depth_fits e m (suc (length es)) ≡ true)
-  unfolding stack_fits
-  passes_fits x m es i d h =
-      let lt = ltb-true (suc m + length es) (length e.nodes) d in (
-        and_from (in_call es && depth_fits e 0 (length es)) (stack_fits e es) (and_from (in_call es) (depth_fits e 0 (length es)) i (lt-ltb (0 + length es) (length e.nodes) (omega (arith, lt)))) h,
-        lt-ltb (m + suc (length es)) (length e.nodes) (omega (arith, lt)),
-      )
-
-pub passed_in_call : (x : Value Shares) (es fs : List Entry) → es ≡ Passed x ∷ fs → in_call es ≡ true → in_call fs ≡ true
-unfolding in_call
-passed_in_call x es fs h i = sym (ap in_call h) ∙ i
-
-pub framed_in_call : (f : Frame) (es fs : List Entry) → es ≡ Framed f ∷ fs → in_call es ≡ true → (n : ℕ) × (g : ℕ) × (f ≡ Calling n g)
-unfolding in_call
-framed_in_call f es fs h i = is_call f (sym (ap in_call h) ∙ i)
-
-pub none_in_call : (es : List Entry) → es ≡ [] → in_call es ≡ true → ⊥
-unfolding in_call
-none_in_call es h i = false≢true (sym (ap in_call h) ∙ i)
-
-pub passed_call : (x : Value Shares) (es fs : List Entry) → es ≡ Passed x ∷ fs → (call_of es ≡ call_of fs) × (under_call es ≡ under_call fs)
-unfolding call_of under_call
-passed_call x es fs h = (ap call_of h, ap under_call h)
-
-pub framed_call : (f : Frame) (es fs : List Entry) → es ≡ Framed f ∷ fs → (call_of es ≡ f) × (under_call es ≡ fs)
-unfolding call_of under_call
-framed_call f es fs h = (ap call_of h, ap under_call h)
-
 -- ---- the parameters
 
 pub bound_more : (e : Environment) (v : ℕ) (xs : List (Value ℕ)) (x : Value ℕ) (k : Kept) → bound e v (xs ++ x ∷ []) k ≡ stored (v + length xs) (level_at e (v + length xs)) x (bound e v xs k)
@@ -108,37 +48,6 @@ bound_more e v (y ∷ xs) x k =
     ∙ ap (λ (i : ℕ). stored i (level_at e i) x (bound e (suc v) xs (stored v (level_at e v) y k))) same
 
 module _ (stands : Shares → ℕ) where
-  pub no_figures : (es fs : List Entry) (f : Frame) → es ≡ Framed f ∷ fs → passed stands es ≡ []
-  unfolding passed
-  no_figures es fs f h = ap (passed stands) h
-
-  pub more_figures : (x : Value Shares) (es fs : List Entry) → es ≡ Passed x ∷ fs → passed stands es ≡ passed stands fs ++ value_of stands x ∷ []
-  unfolding passed
-  more_figures x es fs h = ap (passed stands) h
-
-  -- no parameter is set yet, and one more
-  pub bound_none : (e o : Environment) (g q : ℕ) (f : Frame) (es fs : List Entry) (k : Kept) → o ≡ e → es ≡ Framed f ∷ fs → q ≡ (procedure o g).first_parameter → (q ≡ (procedure e g).first_parameter + length (passed stands es)) × (k ≡ bound e (procedure e g).first_parameter (passed stands es) k)
-  unfolding bound
-  bound_none e o g q f es fs k t h p = (
-    p ∙ ap (λ (i : Environment). (procedure i g).first_parameter) t ∙ sym (add-zero (procedure e g).first_parameter) ∙ sym (ap (λ (xs : List (Value ℕ)). (procedure e g).first_parameter + length xs) (no_figures es fs f h)),
-    sym (ap (λ (xs : List (Value ℕ)). bound e (procedure e g).first_parameter xs k) (no_figures es fs f h)),
-  )
-
-  pub bound_one : (e o i : Environment) (g q : ℕ) (x : Value Shares) (es fs : List Entry) (k j l : Kept) → o ≡ e → i ≡ e → es ≡ Passed x ∷ fs → q ≡ (procedure o g).first_parameter + length (passed stands fs) → j ≡ bound o (procedure o g).first_parameter (passed stands fs) k → l ≡ stored q (level_at i q) (value_of stands x) j → (q + 1 ≡ (procedure e g).first_parameter + length (passed stands es)) × (l ≡ bound e (procedure e g).first_parameter (passed stands es) k)
-  bound_one e o i g q x es fs k j l t u h p b m =
-      let v = (procedure e g).first_parameter in
-      let xs = passed stands fs in
-      let more = more_figures x es fs h in
-      let at : q ≡ v + length xs = p ∙ ap (λ (z : Environment). (procedure z g).first_parameter + length xs) t in (
-        omega (arith, at, ap length more, length-append xs (value_of stands x ∷ [])),
-        m
-            ∙ ap (λ (z : Environment). stored q (level_at z q) (value_of stands x) j) u
-            ∙ ap (λ (z : ℕ). stored z (level_at e z) (value_of stands x) j) at
-            ∙ ap (stored (v + length xs) (level_at e (v + length xs)) (value_of stands x)) (b ∙ ap (λ (z : Environment). bound z (procedure z g).first_parameter xs k) t)
-            ∙ sym (bound_more e v xs (value_of stands x) k)
-            ∙ sym (ap (λ (ys : List (Value ℕ)). bound e v ys k) more),
-      )
-
   gathered : (es : List Entry) (ys : List (Value ℕ)) (n g : ℕ) → in_call es ≡ true → call_of es ≡ Calling n g → frames_of stands ys es ≡ model.calling n g (passed stands es ++ ys) ∷ frames_of stands [] (under_call es)
   unfolding in_call call_of under_call passed frames_of
   gathered [] ys n g i c = absurd (false≢true i)
@@ -172,12 +81,12 @@ module _ (stands : Shares → ℕ) where
       ∙ sym (argued_is e es n g (value_of stands x) None s k i c)
 
   -- what is kept once the last parameter is set and the locals are 0
-  pub entered_by : (e o i : Environment) (g q : ℕ) (x : Value Shares) (es : List Entry) (k j l m : Kept) → o ≡ e → i ≡ e → q ≡ (procedure e g).first_parameter + length (passed stands es) → j ≡ bound e (procedure e g).first_parameter (passed stands es) k → l ≡ stored q (level_at o q) (value_of stands x) j → m ≡ cleared g 0 i.variables l → m ≡ entered e g (passed stands es ++ value_of stands x ∷ []) k
-  entered_by e o i g q x es k j l m t u p b st cl =
+  pub entered_by : (e o : Environment) (g q : ℕ) (x : Value Shares) (es : List Entry) (k j l m : Kept) → o ≡ e → q ≡ (procedure e g).first_parameter + length (passed stands es) → j ≡ bound e (procedure e g).first_parameter (passed stands es) k → l ≡ stored q (level_at o q) (value_of stands x) j → m ≡ cleared g 0 o.variables l → m ≡ entered e g (passed stands es ++ value_of stands x ∷ []) k
+  entered_by e o g q x es k j l m t p b st cl =
       let v = (procedure e g).first_parameter in
       let xs = passed stands es in
       cl
-      ∙ ap (λ (z : Environment). cleared g 0 z.variables l) u
+      ∙ ap (λ (z : Environment). cleared g 0 z.variables l) t
       ∙ ap (cleared g 0 e.variables)
       (st
       ∙ ap (λ (z : Environment). stored q (level_at z q) (value_of stands x) j) t

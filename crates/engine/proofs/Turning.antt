@@ -30,14 +30,6 @@ module _ (e : Environment) where
       ∙ turn_spends e n fs s k
       ∙ sym (add-one s.spent)
 
-  pub run_none : (c : model.Config) → c ≡ model.run e 0 c
-  unfolding model.run
-  run_none c = refl
-
-  pub run_more : (n : ℕ) (c d : model.Config) → d ≡ model.turn e (model.run e n c) → d ≡ model.run e (n + 1) c
-  unfolding model.run
-  run_more n c d h = h ∙ sym (turns_add e n 1 c)
-
   -- a run that has ended stays so
   still : (n : ℕ) (o : Outcome) (s : Shown) (k : Kept) → model.run e n (model.done o s k) ≡ model.done o s k
   unfolding model.run model.turn

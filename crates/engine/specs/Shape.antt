@@ -74,11 +74,6 @@ in_call [] = false
 in_call (Framed f ∷ es) = is_calling f
 in_call (Passed x ∷ es) = in_call es
 
-abbrev pub is_of_call : Option Entry → Bool
-is_of_call None = false
-is_of_call (Some (Framed f)) = is_calling f
-is_of_call (Some (Passed x)) = true
-
 module _ (e : Environment) where
   abbrev pub frame_below : Frame → Bool
   frame_below (Wait n w) = want_below n w

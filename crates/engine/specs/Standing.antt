@@ -11,7 +11,3 @@ entries c = reverse (vec_items c.stack)
 abbrev pub Popped : Option Entry → List Entry → List Entry → Type 0
 Popped None es fs = (es ≡ []) × (fs ≡ [])
 Popped (Some x) es fs = es ≡ x ∷ fs
-
-abbrev pub top_of : List Entry → Option Entry
-top_of [] = None
-top_of (x ∷ es) = Some x

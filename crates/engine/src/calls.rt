@@ -15,28 +15,16 @@ use program::records::{Role, Variable};
 use semantics::values::Value;
 use tables::tables::Tables;
 
-fn is_local_of(number: u16, role: Role) -> bool
-    ensures { result ≡ is_local_of number role }
-{
-    role == Role::Local { procedure: number }
-}
-
 impl<H: Holding + Drop> Store<H> {
-    // A variable becomes 0 if it is a local of the procedure.
-    fn clear_local(&mut self, i: usize, variable: Variable, number: u16)
-        ensures { self.new ≡ (if is_local_of number variable.role then stored i variable.level (Plain 0) self.old else self.old) }
-    {
-        if is_local_of(number, variable.role) {
-            self.set(i, variable.level, Value::Plain(0));
-        }
-    }
-
     // The locals of a procedure become 0, in the order of their numbers.
+    #[tactic(auto, unfolding(semantics::specs::State::cleared))]
     fn clear(&mut self, variables: &[Variable], number: u16)
         ensures { self.new ≡ cleared number 0 variables.now self.old }
     {
         for (i, variable) in variables.iter().enumerate() {
-            self.clear_local(i, *variable, number);
+            if variable.role == (Role::Local { procedure: number }) {
+                self.set(i, variable.level, Value::Plain(0));
+            }
         }
     }
 
@@ -50,6 +38,7 @@ impl<H: Holding + Drop> Store<H> {
     }
 
     // Call `n` goes on with its first argument, or with its procedure.
+    #[tactic(auto, unfolding(semantics::specs::State::bound))]
     pub(crate) fn call(&mut self, tables: &Tables, n: u16, number: u16, first: Option<u16>) -> Move
         requires body { nat_lt (procedure_at (view tables.now) number).body n ≡ true }
         requires first { next_below n first ≡ true }

@@ -8,6 +8,7 @@ mod lend;
 // How many variables a program may have.
 pub const CELLS: usize = 128;
 
+// The array's length is a ghost field: without one no proof is found that what is written to a lent cell stays.
 #[derive(Drop)]
 pub struct Cells<S> {
     cells: [Value<S>; CELLS],

@@ -9,7 +9,8 @@ use tables::tables::Tables;
 
 mod stack;
 
-// The program, the stack above what is next, and what that is. The stack has room for all that may ever stand on it.
+// The program, the stack above what is next, and what that is. The stack has room for all that may ever stand on it. No model:
+// clauses read the fields, and the proofs of the machine the ghost ones. So each step says too that the tables stay.
 #[derive(Drop)]
 pub struct Control {
     pub tables: Tables,

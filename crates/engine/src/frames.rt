@@ -5,7 +5,8 @@ use holding::shares::Shares;
 use semantics::lines::Outcome;
 use semantics::values::{Signal, Value};
 
-// What stands above a node, each with its own number.
+// What stands above a node, each with its own number: as in the model, whose frames have theirs. With a number beside a kind
+// each would be longer where it is made and where it is taken apart.
 #[derive(Clone, Copy)]
 pub enum Frame {
     // it waits for a value

@@ -8,6 +8,7 @@ mod arguments;
 mod moves;
 mod run;
 
+// No model: what a step does is told by the program and the entries, which a configuration does not have.
 #[derive(Drop)]
 pub struct Machine<H: Holding + Drop> {
     pub control: Control,

@@ -14,7 +14,6 @@ use crate::control::Control;
 use crate::frames::Next;
 use crate::machine::Machine;
 use crate::records::procedure;
-use crate::sheet::Sheet;
 use crate::store::Store;
 use crate::workspace::Workspace;
 use checker::fill::fill;
@@ -44,6 +43,7 @@ pub(crate) fn check<L: Levels>(
 
 impl<H: Holding + Drop> Store<H> {
     // Every cell is 0: those of the variables are set so in order, and put in where their level is not public.
+    #[tactic(auto, unfolding(semantics::specs::Opening::zeroed))]
     fn all_zero(holding: H, variables: &[Variable]) -> Store<H>
         ensures { result ≡ zeroed 0 variables.now (unset (H.counts holding)) }
     {
@@ -68,15 +68,20 @@ pub(crate) fn main_of(tables: &Tables) -> u16
 }
 
 // A machine of its own tables, about to begin its main procedure. Its cells fit the levels of their variables.
+#[tactic(auto, unfolding(crate::specs::Shape::stack_fits, crate::specs::View::frames_of))]
 pub(crate) fn make<H: Holding + Drop>(workspace: Workspace, holding: H) -> Machine<H>
     requires { Ready (view workspace.tables) }
     ensures program { program result ≡ view workspace.tables }
     ensures stands { standing H.stands result ≡ opened (view workspace.tables) (H.counts holding) }
     ensures fits { CellsFit (view workspace.tables) result.store }
 {
-    let tables = workspace.tables;
-    let mut stack = workspace.stack;
+    let Workspace {
+        tables,
+        mut stack,
+        mut sheet,
+    } = workspace;
     stack.clear();
+    sheet.clear();
     let body = procedure(&tables, main_of(&tables)).body;
     let store = Store::all_zero(holding, &tables.variables);
     Machine {
@@ -86,6 +91,6 @@ pub(crate) fn make<H: Holding + Drop>(workspace: Workspace, holding: H) -> Machi
             next: Next::Begin(body),
         },
         store,
-        sheet: Sheet::new(workspace.lines),
+        sheet,
     }
 }

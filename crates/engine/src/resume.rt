@@ -8,8 +8,7 @@ ghost use Rattle.semantics.specs.declared.values.Value.TheVariants.{Plain};
 ghost use Rattle.tables.specs.View.{view};
 ghost use Rattle.engine.specs.Shape.{want_below, move_below};
 ghost use Rattle.engine.specs.View.{value_of, want_of, move_of};
-ghost use Rattle.engine.specs.declared.frames.Frame.TheVariants.{Loop};
-ghost use Rattle.engine.specs.declared.frames.Move.TheVariants.{Begin, Under, Over, Write};
+ghost use Rattle.engine.specs.declared.frames.Move.TheVariants.{Over, Write};
 
 use crate::begin::wait;
 use crate::figures::{decides, holds, plain_word};
@@ -32,28 +31,12 @@ fn give(figure: Value<Shares>) -> Move
     Move::Over(Signal::Gives(figure))
 }
 
-fn either(test: bool, one: u16, other: u16) -> u16
-    ensures { result ≡ (if test then one else other) }
-{
-    if test { one } else { other }
-}
-
-// A loop goes on with its body where its guard holds.
-fn go_round(n: u16, guard: u16, body: u16, holds: bool) -> Move
-    ensures { result ≡ (if holds then Under (Loop n guard body) body else Over Falls) }
+// A move where a condition holds; elsewhere the node falls through.
+fn guarded(holds: bool, step: Move) -> Move
+    ensures { result ≡ (if holds then step else Over Falls) }
 {
     if holds {
-        Move::Under(Frame::Loop(n, guard, body), body)
-    } else {
-        Move::Over(Signal::Falls)
-    }
-}
-
-fn branch(node: u16, holds: bool) -> Move
-    ensures { result ≡ (if holds then Begin node else Over Falls) }
-{
-    if holds {
-        Move::Begin(node)
+        step
     } else {
         Move::Over(Signal::Falls)
     }
@@ -136,14 +119,6 @@ impl<H: Holding + Drop> Store<H> {
         }
     }
 
-    fn assign(&mut self, tables: &Tables, variable: u16, figure: Value<Shares>) -> Value<Shares>
-        ensures value { value_of H.stands result ≡ settled (level_at (view tables.now) variable) (value_of H.stands figure) }
-        ensures kept { self.new ≡ stored variable (level_at (view tables.now) variable) (value_of H.stands figure) self.old }
-    {
-        let variable = variable as usize;
-        self.set(variable, tables.variable_level(variable), figure)
-    }
-
     // The move of node `n`, which gets the value that it waits for.
     #[tactic(auto, unfolding(semantics::specs::Machine::got))]
     pub(crate) fn resume(
@@ -164,21 +139,22 @@ impl<H: Holding + Drop> Store<H> {
             Want::Choose(chosen, otherwise) => wait(
                 n,
                 Want::Chosen,
-                either(holds(figure), chosen, otherwise),
+                if holds(figure) { chosen } else { otherwise },
             ),
             Want::Chosen => give(self.settle(tables.level(n), figure)),
-            Want::Assign(variable) => give(self.assign(tables, variable, figure)),
+            Want::Assign(variable) => give(self.assign(tables, variable as usize, figure)),
             Want::Argue(next) => Move::Over(Signal::Argues(figure, next)),
             Want::Release(data_type) => release(n, data_type, self.word(figure)),
             Want::Output(data_type) => output(n, data_type, plain_word(figure)),
             Want::Discard => Move::Over(Signal::Falls),
-            Want::Branch(node) => branch(node, holds(figure)),
-            Want::BranchElse(branch, otherwise) => Move::Begin(either(
+            Want::Branch(node) => guarded(holds(figure), Move::Begin(node)),
+            Want::BranchElse(branch, otherwise) => {
+                Move::Begin(if holds(figure) { branch } else { otherwise })
+            }
+            Want::Guard(guard, body) => guarded(
                 holds(figure),
-                branch,
-                otherwise,
-            )),
-            Want::Guard(guard, body) => go_round(n, guard, body, holds(figure)),
+                Move::Under(Frame::Loop(n, guard, body), body),
+            ),
             Want::Return => Move::Over(Signal::Returns(Some(self.settle(
                 result_level(tables, n),
                 figure,

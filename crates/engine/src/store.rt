@@ -1,6 +1,7 @@
 // What levels guard while a program runs: the cells, and the holding with its counts.
 ghost use Rattle.std.specs.Prelude.{◌≡◌, slice_set};
-ghost use Rattle.semantics.specs.State.{word_in, settled, settling, putting, cell, stored};
+ghost use Rattle.semantics.specs.State.{word_in, settled, settling, putting, cell, stored, level_at};
+ghost use Rattle.tables.specs.View.{view};
 ghost use Rattle.engine.specs.View.{value_of};
 
 use crate::cells::{CELLS, Cells};
@@ -8,6 +9,7 @@ use holding::interface::Holding;
 use holding::shares::Shares;
 use semantics::values::Value;
 use std::marker::Model;
+use tables::tables::Tables;
 
 // Clauses see the words that the cells stand for, and the counts.
 #[derive(Drop)]
@@ -77,5 +79,18 @@ impl<H: Holding + Drop> Store<H> {
         let figure = self.settle(level, figure);
         self.write(variable, figure);
         figure
+    }
+
+    // The cell of a variable becomes a figure, and that is answered as the cell has it.
+    pub(crate) fn assign(
+        &mut self,
+        tables: &Tables,
+        variable: usize,
+        figure: Value<Shares>,
+    ) -> Value<Shares>
+        ensures value { value_of H.stands result ≡ settled (level_at (view tables.now) variable) (value_of H.stands figure) }
+        ensures kept { self.new ≡ stored variable (level_at (view tables.now) variable) (value_of H.stands figure) self.old }
+    {
+        self.set(variable, tables.variable_level(variable), figure)
     }
 }

@@ -2,7 +2,7 @@
 ghost use Rattle.std.specs.Prelude.{◌≤◌, vec_capacity};
 
 use crate::frames::Entry;
-use semantics::lines::Line;
+use crate::sheet::Sheet;
 use tables::tables::Tables;
 
 mod reserve;
@@ -11,7 +11,6 @@ mod reserve;
 pub struct Workspace {
     pub tables: Tables,
     pub stack: Vec<Entry>,
-    pub lines: Vec<Line>,
+    pub sheet: Sheet,
     ghost stack_room: { 1024 ≤ vec_capacity stack },
-    ghost lines_room: { 256 ≤ vec_capacity lines },
 }

@@ -63,14 +63,9 @@ working_both_cells l x y k =
 
 -- ---- the rest of a list from number i on
 
-is_empty : {X : Type 0} → List X → Bool
-is_empty [] = true
-is_empty (x ∷ xs) = false
-
 pub drop_next : {X : Type 0} (d : X) (i : ℕ) (l : List X) {v : X} {vs : List X} → drop i l ≡ v ∷ vs → (get_or l i d ≡ v) × (drop (suc i) l ≡ vs)
-unfolding is_empty
 drop_next d zero l h = (ap (λ xs. get_or xs 0 d) h, ap (λ xs. drop 1 xs) h)
-drop_next d (suc i) [] h = absurd (true≢false (ap is_empty h))
+drop_next d (suc i) [] h = cc
 drop_next d (suc i) (x ∷ xs) h = drop_next d i xs h
 
 module _ (p : Program) where

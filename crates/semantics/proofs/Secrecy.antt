@@ -1,5 +1,5 @@
 -- No sequence of calls carries a hidden figure to an observer, except in a released word.
-use Rattle.std.proofs.Common.{◌≡◌, ℕ, suc, ◌+◌, ◌<◌, ◌≤◌, Bool, true, false, cond, ◌&&◌, ltb, List, [], ◌∷◌, ◌++◌, length, get_or, take, Some, None, Ok, Err, Option, Result, sym, refl, ap, ◌∙◌, subst, true≢false, le_refl, arith, length-append}
+use Rattle.std.proofs.Common.{◌≡◌, ℕ, suc, ◌+◌, ◌<◌, ◌≤◌, Bool, true, false, cond, ◌&&◌, ltb, List, [], ◌∷◌, ◌++◌, length, get_or, take, drop, Some, None, Ok, Err, Option, Result, sym, refl, ap, ◌∙◌, subst, true≢false, le_refl, arith, length-append}
 use Rattle.levels.specs.Rules.{Rules, Lawful}
 use Rattle.holding.specs.declared.shares.Counts.{Counts}
 use Rattle.program.specs.Program.{Program, no_procedure}
@@ -49,16 +49,12 @@ first_word : List Line → ℕ
 first_word [] = 0
 first_word (l ∷ ls) = l.word
 
-rest : List Line → List Line
-rest [] = []
-rest (l ∷ ls) = ls
-
 -- lists that begin alike part after that
 parts_beyond : {i : ℕ} {xs ys : List Line} (ls us vs : List Line) → xs ≡ ls ++ us → ys ≡ ls ++ vs → Parts i xs ys → length ls ≤ i
-unfolding first_word rest
+unfolding first_word
 parts_beyond [] us vs e f q = omega arith
 parts_beyond (l ∷ ls) us vs e f (here d) = absurd (d (ap first_word e ∙ sym (ap first_word f)))
-parts_beyond (l ∷ ls) us vs e f (there q) = let h = parts_beyond ls us vs (ap rest e) (ap rest f) q in omega (arith, h)
+parts_beyond (l ∷ ls) us vs e f (there q) = let h = parts_beyond ls us vs (ap (drop 1) e) (ap (drop 1) f) q in omega (arith, h)
 
 module _ (r : Rules) (law : Lawful r) (o : ℕ) (known : r.is_level o ≡ true) (p : Program) (formed : WellFormed r p) (well : WellTyped r p) where
   -- ---- the opening

@@ -1,7 +1,7 @@
 // What touches a cell: it is read, or lent to be altered.
-ghost use Rattle.std.specs.Prelude.{◌≡◌, ◌<◌, replicate, slice_get, slice_index_or, slice_set};
-ghost use Rattle.std.proofs.Common.{◌∙◌, length-set};
-ghost use Rattle.std.specs.Borrow.{sem, follows};
+ghost use Rattle.std.specs.Prelude.{◌≡◌, ◌<◌, replicate, slice_get, slice_index_or};
+ghost use Rattle.std.specs.Borrow.{sem, Lends};
+ghost use Rattle.engine.specs.Lending.{with_cell};
 ghost use Rattle.engine.specs.contracts.cells.Cells.{the_row as the_cells};
 ghost use Rattle.semantics.specs.contracts.values.Value.{the_row as the_value};
 
@@ -12,7 +12,7 @@ impl<S> Cells<S> {
     // The cell numbered `i`: what is written there is in the table afterwards, and nothing else is altered.
     pub(crate) fn cell(&mut self, i: usize) -> &mut Value<S>
         requires { i < 128 }
-        ensures* follows { sem 𝓛 (follows (the_cells S.row) (the_value S.row) self.entry.ghost_name result.ghost_name (λ w. record { cells = slice_set self.old.cells i w; whole = length-set self.old.cells i w ∙ self.old.whole })) }
+        ensures* writes_back { sem 𝓛 (Lends (the_cells S.row) (the_value S.row) self.entry result (with_cell self.old i)) }
         ensures value { result.now ≡ slice_index_or self.old.cells i result.now }
     {
         &mut self.cells[i]

@@ -1,22 +1,13 @@
 // The steps of control: what is next, and the entries of the stack, of which the top comes first.
 ghost use Rattle.std.specs.Prelude.{◌≡◌, suc, true, ◌∷◌, length};
 ghost use Rattle.tables.specs.View.{view};
-ghost use Rattle.engine.specs.Shape.{is_of_call, in_call, stack_fits, depth_fits};
-ghost use Rattle.engine.specs.Standing.{entries, Popped, top_of};
+ghost use Rattle.engine.specs.Shape.{in_call, stack_fits, depth_fits};
+ghost use Rattle.engine.specs.Standing.{entries, Popped};
 ghost use Rattle.engine.specs.declared.frames.Next.TheVariants.{Begin, Ended};
 
 use super::Control;
 use crate::frames::{Entry, Frame, Next};
 use semantics::lines::Outcome;
-
-fn is_of_call(top: Option<Entry>) -> bool
-    ensures { result ≡ is_of_call top }
-{
-    matches!(
-        top,
-        Some(Entry::Passed(_) | Entry::Frame(Frame::Calling(_, _)))
-    )
-}
 
 impl Control {
     pub(crate) fn begin(&mut self, node: u16)
@@ -47,6 +38,7 @@ impl Control {
         self.next = Next::Begin(node);
     }
 
+    #[tactic(auto, unfolding(crate::specs::Shape::stack_fits))]
     pub(crate) fn pop(&mut self) -> Option<Entry>
         ensures tables { self.new.tables ≡ self.old.tables }
         ensures entries { Popped result (entries self.old) (entries self.new) }
@@ -54,16 +46,14 @@ impl Control {
         self.stack.pop()
     }
 
-    fn top(&self) -> Option<Entry>
-        ensures { result ≡ top_of (entries self.now) }
-    {
-        self.stack.last().copied()
-    }
-
     // Whether the top belongs to a call whose arguments run.
+    #[tactic(auto, unfolding(crate::specs::Shape::stack_fits, crate::specs::Shape::in_call))]
     pub(crate) fn in_call(&self) -> bool
         ensures { result ≡ in_call (entries self.now) }
     {
-        is_of_call(self.top())
+        matches!(
+            self.stack.last(),
+            Some(Entry::Passed(_) | Entry::Frame(Frame::Calling(_, _)))
+        )
     }
 }

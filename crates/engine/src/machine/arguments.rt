@@ -1,8 +1,8 @@
 // Arguments that have run: their figures wait on the stack, and once all have run the parameters are set, in order.
-ghost use Rattle.std.specs.Prelude.{◌≡◌, ◌+◌, ◌≤◌, true, length, Some, None, Option};
+ghost use Rattle.std.specs.Prelude.{◌≡◌, ◌+◌, ◌≤◌, true, length, Some, None, nat_lt, Option};
 ghost use Rattle.semantics.specs.State.{procedure as procedure_at, level_at, stored, bound};
 ghost use Rattle.semantics.specs.declared.values.Signal.TheVariants.{Argues};
-ghost use Rattle.engine.specs.Shape.{in_call, argument_fits};
+ghost use Rattle.engine.specs.Shape.{in_call, depth_fits, argument_fits};
 ghost use Rattle.engine.specs.Standing.{entries};
 ghost use Rattle.engine.specs.View.{value_of};
 ghost use Rattle.engine.specs.Passing.{call_of, under_call, passed};
@@ -25,22 +25,16 @@ pub struct Call {
 }
 
 impl<H: Holding + Drop> Machine<H> {
-    fn set_parameter(&mut self, parameter: usize, figure: Value<Shares>)
-        ensures control { self.new.control ≡ self.old.control }
-        ensures sheet { self.new.sheet ≡ self.old.sheet }
-        ensures kept { self.new.store ≡ stored parameter (level_at (program self.old) parameter) (value_of H.stands figure) self.old.store }
-    {
-        let level = self.control.tables.variable_level(parameter);
-        self.store.set(parameter, level, figure);
-    }
-
     // Takes the call on top with the figures above it off the stack, and sets its parameters to them.
+    #[tactic(auto, using(crate::proofs::Passing::bound_more), unfolding(crate::specs::Shape::stack_fits, crate::specs::Shape::in_call, crate::specs::Passing::call_of, crate::specs::Passing::under_call, crate::specs::Passing::passed, semantics::specs::State::bound))]
     fn bind(&mut self) -> Call
         requires { in_call (entries self.old.control) ≡ true }
         ensures tables { self.new.control.tables ≡ self.old.control.tables }
         ensures sheet { self.new.sheet ≡ self.old.sheet }
         ensures entries { entries self.new.control ≡ under_call (entries self.old.control) }
         ensures call { call_of (entries self.old.control) ≡ Calling result.node result.procedure }
+        ensures body { nat_lt (procedure_at (program self.old) result.procedure).body result.node ≡ true }
+        ensures depth { depth_fits (program self.old) result.node (length (entries self.new.control)) ≡ true }
         ensures parameter { result.parameter ≡ (procedure_at (program self.old) result.procedure).first_parameter + length (passed H.stands (entries self.old.control)) }
         ensures small { result.parameter ≤ 65535 + length (entries self.old.control) }
         ensures kept { self.new.store ≡ bound (program self.old) (procedure_at (program self.old) result.procedure).first_parameter (passed H.stands (entries self.old.control)) self.old.store }
@@ -48,7 +42,8 @@ impl<H: Holding + Drop> Machine<H> {
         match self.control.pop() {
             Some(Entry::Passed(figure)) => {
                 let call = self.bind();
-                self.set_parameter(call.parameter, figure);
+                self.store
+                    .assign(&self.control.tables, call.parameter, figure);
                 Call {
                     parameter: call.parameter + 1,
                     ..call
@@ -68,19 +63,22 @@ impl<H: Holding + Drop> Machine<H> {
     }
 
     // The last argument has run: its procedure begins.
+    #[tactic(auto, unfolding(crate::specs::Shape::stack_fits))]
     fn enter(&mut self, figure: Value<Shares>)
         requires { in_call (entries self.old.control) ≡ true }
         ensures tables { self.new.control.tables ≡ self.old.control.tables }
         ensures stands { standing H.stands self.new ≡ handing H.stands (Some (Argues figure None)) self.old }
     {
         let call = self.bind();
-        self.set_parameter(call.parameter, figure);
+        self.store
+            .assign(&self.control.tables, call.parameter, figure);
         let body = self.store.enter(&self.control.tables, call.procedure);
         self.control
             .push(Entry::Frame(Frame::Running(call.node)), body);
     }
 
     // The figure of an argument comes to its call, which goes on with the next.
+    #[tactic(auto, unfolding(crate::specs::Shape::stack_fits))]
     pub(crate) fn pass_figure(&mut self, figure: Value<Shares>, next: Option<u16>)
         requires call { in_call (entries self.old.control) ≡ true }
         requires fits { argument_fits (program self.old) (length (entries self.old.control)) next ≡ true }

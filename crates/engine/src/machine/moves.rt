@@ -16,6 +16,7 @@ use semantics::values::Signal;
 
 impl<H: Holding + Drop> Machine<H> {
     // Does a move, and answers the signal that goes on up.
+    #[tactic(auto, unfolding(crate::specs::Shape::stack_fits, crate::specs::View::frames_of))]
     pub(crate) fn drive(&mut self, step: Move) -> Option<Signal<Shares>>
         requires { move_fits (program self.old) (length (entries self.old.control)) step ≡ true }
         ensures tables { self.new.control.tables ≡ self.old.control.tables }
@@ -48,6 +49,7 @@ impl<H: Holding + Drop> Machine<H> {
     }
 
     // A signal meets the entry on top, unless it is an argument's and the entry its call's.
+    #[tactic(auto, unfolding(crate::specs::Shape::stack_fits, crate::specs::Shape::in_call, crate::specs::View::frames_of, semantics::specs::Machine::pass))]
     fn meet_top(&mut self, signal: Signal<Shares>) -> Option<Signal<Shares>>
         requires fits { signal_fits (program self.old) (length (entries self.old.control)) signal ≡ true }
         requires apart { (is_argument signal && in_call (entries self.old.control)) ≡ false }
@@ -86,12 +88,11 @@ impl<H: Holding + Drop> Machine<H> {
     }
 
     // A signal goes up, until a node is about to begin or the run has ended.
-    pub(crate) fn pass(&mut self, handed: Option<Signal<Shares>>)
+    pub(crate) fn pass(&mut self, mut handed: Option<Signal<Shares>>)
         requires { handed_fits (program self.old) (length (entries self.old.control)) handed ≡ true }
         ensures tables { self.new.control.tables ≡ self.old.control.tables }
         ensures stands { standing H.stands self.new ≡ handing H.stands handed self.old }
     {
-        let mut handed = handed;
         while let Some(signal) = handed {
             handed = self.meet(signal);
         }

@@ -26,6 +26,7 @@ impl<H: Holding + Drop> Machine<H> {
 
     // Runs until so many steps are spent and a further node would begin, or the run ends. A run stands where the natural
     // semantics of the program says, and it goes on from where it stood.
+    #[tactic(auto, using(semantics::proofs::Theorems::machine_follows, semantics::proofs::Theorems::turns_add), unfolding(semantics::specs::Machine::run))]
     pub(crate) fn run(&mut self, steps: u32)
         requires { self.old.sheet.spent + steps < 2 ^ 32 }
         ensures tables { self.new.control.tables ≡ self.old.control.tables }

@@ -1,18 +1,25 @@
-// Spending a step, and writing a line.
-ghost use Rattle.std.specs.Prelude.{◌≡◌, ◌+◌, ◌^◌, ◌<◌, ◌≤◌, not, [], is_ok, if◌then◌else◌, vec_capacity};
+// Reserving a sheet, spending a step, and writing a line.
+ghost use Rattle.std.specs.Prelude.{◌≡◌, ◌+◌, ◌^◌, ◌<◌, not, [], is_ok, IfOk, if◌then◌else◌};
 ghost use Rattle.semantics.specs.State.{tick as ticked, full, written};
 
 use super::{Draft, LINES, LinesFull, Sheet};
 use semantics::lines::Line;
+use std::alloc::{AllocError, Global};
 
 impl Sheet {
-    // An empty sheet, in memory that has room for all lines.
-    pub(crate) fn new(mut lines: Vec<Line>) -> Sheet
-        requires { 256 ≤ vec_capacity lines }
-        ensures { result ≡ record { lines = []; spent = 0 } }
+    pub(crate) fn reserve(heap: Global) -> Result<Sheet, AllocError>
+        ensures { IfOk result (λ s. s ≡ record { lines = []; spent = 0 }) }
     {
-        lines.clear();
-        Sheet { lines, spent: 0 }
+        let lines = Vec::with_capacity(heap, LINES)?;
+        Ok(Sheet { lines, spent: 0 })
+    }
+
+    // No line stands then, and no step is spent.
+    pub(crate) fn clear(&mut self)
+        ensures { self.new ≡ record { lines = []; spent = 0 } }
+    {
+        self.lines.clear();
+        self.spent = 0;
     }
 
     pub(crate) fn lines(&self) -> &[Line]
@@ -42,18 +49,12 @@ impl Sheet {
         if self.lines.len() >= LINES {
             return Err(LinesFull);
         }
-        let Draft {
-            kind,
-            node,
-            data_type,
-            word,
-        } = draft;
         self.lines.push_reserved(Line {
-            kind,
-            node,
+            kind: draft.kind,
+            node: draft.node,
             steps: self.spent,
-            data_type,
-            word,
+            data_type: draft.data_type,
+            word: draft.word,
         });
         Ok(())
     }

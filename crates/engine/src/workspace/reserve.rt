@@ -2,7 +2,7 @@ ghost use Rattle.std.specs.Prelude.{IfOk};
 ghost use Rattle.tables.specs.View.{Empty};
 
 use super::Workspace;
-use crate::sheet::LINES;
+use crate::sheet::Sheet;
 use std::alloc::{AllocError, Global};
 use tables::tables::Tables;
 
@@ -15,11 +15,11 @@ impl Workspace {
     {
         let tables = Tables::reserve(heap)?;
         let stack = Vec::with_capacity(heap, NODES)?;
-        let lines = Vec::with_capacity(heap, LINES)?;
+        let sheet = Sheet::reserve(heap)?;
         Ok(Workspace {
             tables,
             stack,
-            lines,
+            sheet,
         })
     }
 }

@@ -1,74 +1,28 @@
-use Rattle.std.proofs.Common.{◌≡◌, suc, true, List, [], ◌∷◌, length, sym, refl, ap, ◌∙◌, subst, arith}
+use Rattle.std.proofs.Common.{◌≡◌, suc, true, List, length, sym, ap, subst}
 use Rattle.tables.specs.View.{view}
 use Rattle.tables.specs.declared.tables.Tables.{Tables}
-use Rattle.engine.specs.Shape.{number, is_argument, in_call, frame_below, depth_fits, signal_fits}
+use Rattle.engine.specs.Shape.{number, is_argument, in_call, depth_fits, signal_fits}
 use Rattle.engine.specs.Standing.{entries}
 use Rattle.engine.specs.declared.frames.Entry.{Entry}
-use Rattle.engine.proofs.Meeting.{framed_fits, passed_fits, framed_apart, no_argument, emptied, met, past_figure, signal_less, handed_less}
+use Rattle.engine.proofs.Meeting.{framed_fits, passed_fits, no_argument, past_figure}
 use Rattle.engine.proofs.machine.Machine.meet_top.Goals as goal
-
-pub meet-step-requires : goal.meet-step-requires
-meet-step-requires g c =
-    let s = c.args.self.now.control in
-    let p = c.pop.new.self in
-    let f = c.in-Some-Frame.frame in
-    let h = c.in-Some-Frame.ensures.entries ∙ ap (λ (x : Entry). x ∷ entries p) c.in-Some-Frame.field-0-is in
-    let fits = framed_fits (view s.tables) f (entries s) (entries p) h s.fits in
-    record {
-      below = subst (λ (t : Tables). frame_below (view t) f ≡ true) (sym c.pop.ensures.tables) fits.0;
-      apart = framed_apart c.args.signal f (entries s) (entries p) h c.requires.apart;
-    }
 
 pub drive-requires : goal.drive-requires
 drive-requires g c =
     let s = c.args.self.now.control in
     let p = c.pop.new.self in
     let f = c.in-Some-Frame.frame in
-    let h = c.in-Some-Frame.ensures.entries ∙ ap (λ (x : Entry). x ∷ entries p) c.in-Some-Frame.field-0-is in
-    let fits = framed_fits (view s.tables) f (entries s) (entries p) h s.fits in
-    let deep : signal_fits (view s.tables) (suc (length (entries p))) c.args.signal ≡ true = subst (λ (es : List Entry). signal_fits (view s.tables) (length es) c.args.signal ≡ true) h c.requires.fits in
+    let top = rw c.in-Some-Frame.field-0-is at c.in-Some-Frame.ensures.entries in
+    let fits = framed_fits (view s.tables) f (entries s) (entries p) top s.fits in
+    let deep : signal_fits (view s.tables) (suc (length (entries p))) c.args.signal ≡ true = subst (λ (es : List Entry). signal_fits (view s.tables) (length es) c.args.signal ≡ true) top c.requires.fits in
     c.meet-step.ensures.fits (length (entries p)) (subst (λ (t : Tables). depth_fits (view t) (number f) (length (entries p)) ≡ true) (sym c.pop.ensures.tables) fits.1) (subst (λ (t : Tables). signal_fits (view t) (suc (length (entries p))) c.args.signal ≡ true) (sym c.pop.ensures.tables) deep)
 
-pub returns-in-None : goal.returns-in-None
-returns-in-None g c =
-    let h = g.H.Holding in
-    let m = c.args.self.now in
-    let p = c.end.new.self in
-    record {
-      tables = c.end.ensures.tables ∙ c.pop.ensures.tables;
-      stands = emptied h.stands (view m.control.tables) p.next (entries m.control) (entries p) c.args.signal m.sheet m.store c.end.ensures.next c.in-None.ensures.entries.0;
-      entries = tt;
-      fits = refl;
-    }
-
-pub returns-in-Some-Passed : goal.returns-in-Some-Passed
-returns-in-Some-Passed g c =
-    let h = g.H.Holding in
+pub returns-in-Some-Passed-clause-stands : goal.returns-in-Some-Passed-clause-stands
+returns-in-Some-Passed-clause-stands g c =
     let m = c.args.self.now in
     let s = m.control in
     let p = c.pop.new.self in
     let z = c.args.signal in
-    let top = c.in-Some-Passed.ensures.entries ∙ ap (λ (x : Entry). x ∷ entries p) c.in-Some-Passed.field-0-is in
+    let top = rw c.in-Some-Passed.field-0-is at c.in-Some-Passed.ensures.entries in
     let none = no_argument (is_argument z) (in_call (entries s)) (passed_fits (view s.tables) _ (entries s) (entries p) top s.fits) c.requires.apart in
-    record {
-      tables = c.pop.ensures.tables;
-      stands = past_figure h.stands (view s.tables) (view p.tables) _ (entries s) (entries p) z m.sheet m.store (ap view c.pop.ensures.tables) top none;
-      entries = omega (arith, ap length top);
-      fits = signal_less (view p.tables) z (length (entries p)) none;
-    }
-
-pub returns-in-Some-Frame : goal.returns-in-Some-Frame
-returns-in-Some-Frame g c =
-    let h = g.H.Holding in
-    let m = c.args.self.now in
-    let s = m.control in
-    let p = c.pop.new.self in
-    let top = c.in-Some-Frame.ensures.entries ∙ ap (λ (x : Entry). x ∷ entries p) c.in-Some-Frame.field-0-is in
-    record {
-      tables = c.drive.ensures.tables ∙ c.pop.ensures.tables;
-      stands =
-          c.drive.ensures.stands
-          ∙ met h.stands (view s.tables) (view p.tables) c.in-Some-Frame.frame (entries s) (entries p) c.args.signal m.sheet m.store _ (ap view c.pop.ensures.tables) top (c.meet-step.ensures.moves []);
-      entries = handed_less c.drive.result (entries s) (entries p) (entries c.drive.new.self.control) (omega (arith, ap length top)) c.drive.ensures.entries;
-      fits = c.drive.ensures.fits;
-    }
+    past_figure g.H.Holding.stands (view s.tables) (view p.tables) _ (entries s) (entries p) z m.sheet m.store (ap view c.pop.ensures.tables) top none

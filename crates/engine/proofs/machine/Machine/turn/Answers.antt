@@ -10,13 +10,11 @@ returns g c =
     let p = c.pass.new.self in
     let e = program m in
     let fs = frames h.stands m in
-    let s = m.sheet in
-    let k = m.store in
     let stands =
     c.pass.ensures.stands ∙ c.drive-handed.ensures.stands
-    ∙ turned e m.control.next c.args.node fs s _ k _ c.requires.begins c.tick.ensures c.begin-step.ensures.moves in
+    ∙ turned e m.control.next c.args.node fs m.sheet _ m.store _ c.requires.begins c.tick.ensures c.begin-step.ensures.moves in
     record {
       tables = c.pass.ensures.tables ∙ c.drive-handed.ensures.tables;
       stands = stands;
-      spent = turned_spends e m.control.next p.control.next c.args.node fs (frames h.stands p) s p.sheet k p.store c.requires.begins stands;
+      spent = turned_spends e m.control.next p.control.next c.args.node fs (frames h.stands p) m.sheet p.sheet m.store p.store c.requires.begins stands;
     }
