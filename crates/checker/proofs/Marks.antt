@@ -1,7 +1,6 @@
 -- The table of names counts how often each node is named.
-use Rattle.std.proofs.Common.{◌≡◌, ℕ, zero, suc, ◌+◌, ◌<◌, Bool, true, false, cond, ◌||◌, eqb, ltb, ◌≢◌, List, [], ◌∷◌, ◌++◌, length, get_or, take, set, replicate, fold, Option, sym, refl, ap, ◌∙◌, subst, add-zero, add_assoc, zero-add, add-one, length-set, get_or-set_other, get_or-set_same, rules}
+use Rattle.std.proofs.Common.{◌≡◌, ℕ, zero, suc, ◌+◌, ◌<◌, Bool, true, false, cond, ◌||◌, eqb, ltb, ◌≢◌, List, [], ◌∷◌, ◌++◌, length, get_or, set, replicate, fold, Option, sym, refl, ap, ◌∙◌, subst, add-zero, add_assoc, zero-add, add-one, length-set, get_or-set_other, get_or-set_same, rules}
 use lib.ListN.{length-replicate, get_or-replicate}
-use Rattle.std.proofs.lemmas.List.Sums.{fold_more}
 use Rattle.std.proofs.lemmas.Bool.{eqb-true, eqb-false, lt-ltb}
 use Rattle.program.specs.Program.{optional, present, children, times_in}
 use Rattle.program.specs.declared.records.Procedure.{Procedure}
@@ -78,7 +77,7 @@ length_folded : (ns : List TypedNode) (ms : List Naming) → length (fold marked
 length_folded [] ms = refl
 length_folded (n ∷ ns) ms = length_folded ns (marked_by ms n) ∙ length_all (children n.node) ms
 
-pub length_names : (ns : List TypedNode) → length (names_of ns) ≡ length ns
+length_names : (ns : List TypedNode) → length (names_of ns) ≡ length ns
 length_names ns = length_folded ns (replicate (length ns) Never) ∙ length-replicate (length ns) Never
 
 names_at : (ns : List TypedNode) (k : ℕ) → k < length ns → get_or (names_of ns) k Never ≡ tally (times_named k ns)
@@ -105,8 +104,3 @@ marked_if ms o = marked_all ms (optional o)
 pub present_marked : (os : List (Option ℕ)) (ms : List Naming) → fold marked_if ms os ≡ marked_all ms (present os)
 present_marked [] ms = refl
 present_marked (o ∷ os) ms = present_marked os (marked_if ms o) ∙ sym (all_append (optional o) (present os) ms)
-
--- one node further, from any counts ms before
-pub marked_more : (ms : List Naming) (ns : List TypedNode) (i : ℕ) (d : TypedNode) (xs : List Naming) → i < length ns → xs ≡ fold marked_by ms (take i ns) → marked_all xs (children (get_or ns i d).node) ≡ fold marked_by ms (take (i + 1) ns)
-marked_more ms ns i d xs lt e =
-    ap (λ (ys : List Naming). marked_by ys (get_or ns i d)) e ∙ sym (fold_more marked_by ms ns i d lt)

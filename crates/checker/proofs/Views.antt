@@ -1,5 +1,5 @@
 -- The environment that tables hold, from what each of them holds.
-use Rattle.std.proofs.Common.{◌≡◌, List, IfOk, Ok, Err, vec_items, Result, ap, ◌∙◌}
+use Rattle.std.proofs.Common.{◌≡◌, List, vec_items, ap, ◌∙◌}
 use Rattle.program.specs.declared.records.Variable.{Variable}
 use Rattle.program.specs.declared.records.Procedure.{Procedure}
 use Rattle.typing.specs.Faults.{environment}
@@ -12,7 +12,3 @@ viewed t vs ds ns v d n =
     ap (λ (xs : List Variable). environment xs (vec_items t.procedures) (vec_items t.nodes)) v
     ∙ ap (λ (xs : List Procedure). environment vs xs (vec_items t.nodes)) d
     ∙ ap (environment vs ds) n
-
-pub made_always : {X Y P : Type 0} (r : Result X Y) → P → IfOk r (λ _. P)
-made_always (Ok x) p = p
-made_always (Err y) p = tt

@@ -1,6 +1,8 @@
 -- One node record further, by its fault.
 use Rattle.std.proofs.Common.{◌≡◌, ◌<◌, suc, cond, List, length, drop, sym, refl, ap, ◌∙◌, add-zero, arith}
 use Rattle.std.proofs.lemmas.Result.{err_from_is_err_and}
+use Rattle.program.specs.Decode.{node_decoded}
+use Rattle.program.specs.Fields.{node_fields_of}
 use Rattle.program.specs.Program.{no_node}
 use Rattle.program.specs.declared.records.Procedure.{Procedure}
 use Rattle.typing.specs.Environment.{procedure_of}
@@ -9,7 +11,7 @@ use Rattle.typing.proofs.Rising.{first_none, table_none, length_table, drop_reco
 use Rattle.checker.specs.Records.{is_body_of}
 use Rattle.checker.proofs.Answered.{stops, goes_on, grows}
 use Rattle.checker.proofs.Running.{procedure_none, procedure_more, procedure_below}
-use Rattle.checker.proofs.Taken.{node_fault_taken, typed_node_taken}
+use Rattle.checker.proofs.Taken.{record_taken, node_fault_taken, typed_node_taken}
 use Rattle.checker.proofs.Views.{viewed}
 use Rattle.checker.proofs.nodes.check_nodes.Goals as goal
 
@@ -55,7 +57,8 @@ returns-in_err-node g c =
     let lt : i < l.nodes = omega (arith, step, c.loop-place.invariant.1) in
     let held = c.loop-place.invariant.3 in
     let below = viewed c.loop-place.tables vs ds (typed_nodes r vs ds bs i) held.variables held.procedures held.nodes in
-    let here = node_fault_taken bs _ i _ step.0.1 c.loop-place.invariant.0 r vs ds _ _ below c.loop-place.invariant.4 in
+    let taken = record_taken node_fields_of node_decoded 12 bs _ i _ step.0.1 c.loop-place.invariant.0 in
+    let here = node_fault_taken bs i _ taken r vs ds _ _ below c.loop-place.invariant.4 in
     let answer = rw step.1 at c.in_err-node.ensures in
     rw (p.1, p.2)
     record { value = stops tt (node_fault r vs ds bs) i l.nodes _ _ _ c.loop-place.invariant.2 lt here answer; filled = tt }
@@ -71,8 +74,9 @@ loop-place-preserved g c =
     let i = c.loop-place.place-iterator.count in
     let held = c.loop-place.invariant.3 in
     let below = viewed c.loop-place.tables vs ds (typed_nodes r vs ds bs i) held.variables held.procedures held.nodes in
-    let here = node_fault_taken bs _ i _ step.0.1 c.loop-place.invariant.0 r vs ds _ _ below c.loop-place.invariant.4 in
-    let it = typed_node_taken bs _ i _ step.0.1 c.loop-place.invariant.0 r vs ds _ _ below c.loop-place.invariant.4 in
+    let taken = record_taken node_fields_of node_decoded 12 bs _ i _ step.0.1 c.loop-place.invariant.0 in
+    let here = node_fault_taken bs i _ taken r vs ds _ _ below c.loop-place.invariant.4 in
+    let it = typed_node_taken bs i _ taken r vs ds _ _ below c.loop-place.invariant.4 in
     let answer = rw step.1 at c.in_ok-node.ensures in
     let next = rw step.1 at c.next_procedure-procedure.ensures in
     rw step.2 (

@@ -1,11 +1,13 @@
 -- One procedure record further, by its fault.
 use Rattle.std.proofs.Common.{◌≡◌, ◌<◌, length, drop, sym, refl, ap, ◌∙◌, add-zero, arith}
 use Rattle.std.proofs.lemmas.Result.{err_from_is_err_and}
+use Rattle.program.specs.Decode.{procedure_decoded}
+use Rattle.program.specs.Fields.{procedure_fields_of}
 use Rattle.program.specs.Program.{no_procedure}
 use Rattle.typing.specs.Faults.{known, file_variables, procedure_part, procedure_record, procedure_fault}
 use Rattle.typing.proofs.Rising.{first_none, table_none, length_table, drop_record}
 use Rattle.checker.proofs.Answered.{stops, goes_on, grows}
-use Rattle.checker.proofs.Taken.{procedure_taken, procedure_fault_taken}
+use Rattle.checker.proofs.Taken.{record_taken, procedure_fault_taken}
 use Rattle.checker.proofs.procedures.check_procedures.Goals as goal
 
 pub loop-place-init : goal.loop-place-init
@@ -37,7 +39,8 @@ returns-in_err-procedure g c =
     let part = procedure_part l bs in
     let i = c.loop-place.place-iterator.count in
     let lt : i < l.procedures = omega (arith, step, c.loop-place.invariant.1) in
-    let here = procedure_fault_taken part _ i _ step.0.1 c.loop-place.invariant.0 r bs l.nodes l.procedures (file_variables l bs) _ c.loop-place.invariant.3.procedures in
+    let it = record_taken procedure_fields_of procedure_decoded 12 part _ i _ step.0.1 c.loop-place.invariant.0 in
+    let here = procedure_fault_taken part i _ it r bs l.nodes l.procedures (file_variables l bs) _ c.loop-place.invariant.3.procedures in
     let answer = rw (step.1, c.loop-place.invariant.3.variables) at c.in_err-procedure.ensures in
     rw (p.1, p.2)
     record {
@@ -55,8 +58,8 @@ loop-place-preserved g c =
     let l = c.args.parts.now.layout in
     let part = procedure_part l bs in
     let i = c.loop-place.place-iterator.count in
-    let here = procedure_fault_taken part _ i _ step.0.1 c.loop-place.invariant.0 r bs l.nodes l.procedures (file_variables l bs) _ c.loop-place.invariant.3.procedures in
-    let it = procedure_taken part _ i _ step.0.1 c.loop-place.invariant.0 in
+    let it = record_taken procedure_fields_of procedure_decoded 12 part _ i _ step.0.1 c.loop-place.invariant.0 in
+    let here = procedure_fault_taken part i _ it r bs l.nodes l.procedures (file_variables l bs) _ c.loop-place.invariant.3.procedures in
     let answer = rw (step.1, c.loop-place.invariant.3.variables) at c.in_ok-procedure.ensures in
     rw step.2 (
       step.0.2 ∙ ap (drop 12) c.loop-place.invariant.0 ∙ drop_record 12 i part,

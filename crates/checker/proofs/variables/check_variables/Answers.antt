@@ -1,11 +1,13 @@
 -- One variable record further, by its fault.
 use Rattle.std.proofs.Common.{◌≡◌, ◌<◌, length, drop, sym, refl, ap, ◌∙◌, add-zero, arith}
 use Rattle.std.proofs.lemmas.Result.{err_from_is_err_and}
+use Rattle.program.specs.Decode.{variable_decoded}
+use Rattle.program.specs.Fields.{variable_fields_of}
 use Rattle.program.specs.Program.{no_variable}
 use Rattle.typing.specs.Faults.{known, variable_part, variable_record, variable_fault}
 use Rattle.typing.proofs.Rising.{first_none, table_none, length_table, drop_record}
 use Rattle.checker.proofs.Answered.{stops, goes_on, grows}
-use Rattle.checker.proofs.Taken.{variable_taken, variable_fault_taken}
+use Rattle.checker.proofs.Taken.{record_taken, variable_fault_taken}
 use Rattle.checker.proofs.variables.check_variables.Goals as goal
 
 pub loop-place-init : goal.loop-place-init
@@ -36,7 +38,8 @@ returns-in_err-variable g c =
     let n = c.args.parts.now.layout.variables in
     let i = c.loop-place.place-iterator.count in
     let lt : i < n = omega (arith, step, c.loop-place.invariant.1) in
-    let here = variable_fault_taken part _ i _ step.0.1 c.loop-place.invariant.0 g.L.Levels.rules m in
+    let it = record_taken variable_fields_of variable_decoded 8 part _ i _ step.0.1 c.loop-place.invariant.0 in
+    let here = variable_fault_taken part i _ it g.L.Levels.rules m in
     let answer = rw step.1 at c.in_err-variable.ensures in
     rw (p.1, p.2)
     record { value = stops tt (variable_fault g.L.Levels.rules m part) i n _ _ _ c.loop-place.invariant.2 lt here answer; filled = tt }
@@ -47,8 +50,8 @@ loop-place-preserved g c =
     let part = variable_part c.args.parts.now.layout c.args.parts.now.file.now in
     let m = c.args.parts.now.layout.procedures in
     let i = c.loop-place.place-iterator.count in
-    let here = variable_fault_taken part _ i _ step.0.1 c.loop-place.invariant.0 g.L.Levels.rules m in
-    let it = variable_taken part _ i _ step.0.1 c.loop-place.invariant.0 in
+    let it = record_taken variable_fields_of variable_decoded 8 part _ i _ step.0.1 c.loop-place.invariant.0 in
+    let here = variable_fault_taken part i _ it g.L.Levels.rules m in
     let answer = rw step.1 at c.in_ok-variable.ensures in
     rw step.2 (
       step.0.2 ∙ ap (drop 8) c.loop-place.invariant.0 ∙ drop_record 8 i part,
