@@ -1,4 +1,5 @@
-// What a node does as it begins.
+// What a node does as it begins. The tables and the node's number stay two parameters: in a struct that borrows the tables, clauses
+// would have to name the two as `site.entry.tables.now` and `site.entry.number`.
 ghost use Rattle.std.specs.Prelude.{◌≡◌, true};
 ghost use Rattle.semantics.specs.Checked.{Descends};
 ghost use Rattle.semantics.specs.Machine.{begins};
@@ -21,8 +22,7 @@ use program::records::Node;
 use semantics::values::{Operator, Signal, Value};
 use tables::tables::Tables;
 
-// Node `n` waits for the value of another. Where the tables are read too they go beside the number, and not in a struct with it:
-// clauses would have to name the two in a value that borrows, as `site.entry.tables.now` and `site.entry.number`.
+// Node `n` waits for the value of another.
 pub(crate) fn wait(n: u16, want: Want<Shares>, node: u16) -> Move
     ensures { result ≡ Under (Wait n want) node }
 {
