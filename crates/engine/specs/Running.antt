@@ -8,8 +8,9 @@ use Rattle.semantics.specs.State.{Shown, Kept}
 use Rattle.semantics.specs.declared.values.Signal.{Signal}
 use Rattle.engine.specs.Shape.{signal_fits}
 use Rattle.engine.specs.Standing.{entries}
-use Rattle.engine.specs.View.{signal_of, frames_of}
+use Rattle.engine.specs.View.{signal_of, frames_of, move_of}
 use Rattle.engine.specs.declared.frames.Entry.{Entry}
+use Rattle.engine.specs.declared.frames.Move.{Move}
 use Rattle.engine.specs.declared.frames.Next.{Next}
 use Rattle.engine.specs.declared.frames.Next.TheVariants.{Begin, Ended}
 use Rattle.engine.specs.declared.machine.Machine.{Machine}
@@ -51,3 +52,7 @@ module _ (stands : Shares → ℕ) {H : Type 0} where
   abbrev pub handing : Option (Signal Shares) → Machine H → model.Config
   handing None m = standing m
   handing (Some z) m = model.pass (program m) (frames m) (signal_of stands z) m.sheet m.store
+
+  -- and where it stands once a move is done
+  abbrev pub driving : Move → Machine H → model.Config
+  driving v m = model.drive (program m) (frames m) (model.pass (program m) (frames m)) m.sheet (move_of stands v m.store)

@@ -1,6 +1,7 @@
-// What a node does as it begins.
+// What a node does as it begins. The tables and the node's number stay two parameters: in a struct that borrows the tables, clauses
+// would have to name the two as `site.entry.tables.now` and `site.entry.number`.
 ghost use Rattle.std.specs.Prelude.{◌≡◌, true};
-ghost use Rattle.semantics.specs.Checked.{descends, Descends};
+ghost use Rattle.semantics.specs.Checked.{Descends};
 ghost use Rattle.semantics.specs.Machine.{begins};
 ghost use Rattle.semantics.specs.State.{node_of, level_at, stored};
 ghost use Rattle.semantics.specs.declared.values.Signal.TheVariants.{Falls};
@@ -21,8 +22,7 @@ use program::records::Node;
 use semantics::values::{Operator, Signal, Value};
 use tables::tables::Tables;
 
-// Node `n` waits for the value of another. Where the tables are read too they go beside the number, and not in a struct with it:
-// clauses would have to name the two in a value that borrows, as `site.entry.tables.now` and `site.entry.number`.
+// Node `n` waits for the value of another.
 pub(crate) fn wait(n: u16, want: Want<Shares>, node: u16) -> Move
     ensures { result ≡ Under (Wait n want) node }
 {
@@ -32,12 +32,12 @@ pub(crate) fn wait(n: u16, want: Want<Shares>, node: u16) -> Move
 impl<H: Holding + Drop> Store<H> {
     // The move of node `n` as it begins.
     #[tactic(auto, unfolding(semantics::specs::Machine::begins))]
-    fn begin_node(&mut self, tables: &Tables, n: u16, node: Node) -> Move
-        requires { descends (view tables.now) n node ≡ true }
-        ensures moves { move_of H.stands result self.new ≡ begins (view tables.now) n node self.old }
+    pub(crate) fn begin(&mut self, tables: &Tables, n: u16) -> Move
+        requires { Descends (view tables.now) }
+        ensures moves { move_of H.stands result self.new ≡ begins (view tables.now) n (node_of (view tables.now) n) self.old }
         ensures below { move_below (view tables.now) n result ≡ true }
     {
-        match node {
+        match typed_node(tables, n).node {
             Node::Constant { word, .. } => Move::Over(Signal::Gives(Value::Plain(word))),
             Node::Variable { variable } => Move::Over(Signal::Gives(self.read(variable as usize))),
             Node::Minus { operand } => wait(n, Want::Only(Unary::Minus), operand),
@@ -97,13 +97,5 @@ impl<H: Holding + Drop> Store<H> {
                 operand,
             ),
         }
-    }
-
-    pub(crate) fn begin(&mut self, tables: &Tables, n: u16) -> Move
-        requires { Descends (view tables.now) }
-        ensures moves { move_of H.stands result self.new ≡ begins (view tables.now) n (node_of (view tables.now) n) self.old }
-        ensures below { move_below (view tables.now) n result ≡ true }
-    {
-        self.begin_node(tables, n, typed_node(tables, n).node)
     }
 }

@@ -1,4 +1,5 @@
-// What is asked of figures that may be plain. The answers are the same whatever three words stand for.
+// What is asked of figures that may be plain. The answers are the same whatever three words stand for: that is the holding's to
+// say, so a figure has no model, and clauses say what it stands for.
 ghost use Rattle.std.specs.Prelude.{◌≡◌, ℕ};
 ghost use Rattle.holding.specs.declared.shares.Shares.{Shares};
 ghost use Rattle.semantics.specs.State.{plain_word, holds as is_true, decides as is_deciding};

@@ -17,19 +17,26 @@ mod files;
 mod machines;
 mod programs;
 
-// A program runs to its end, and writes these lines.
+fn finished(spent: u32, counts: Counts) -> Standing {
+    Standing {
+        outcome: Outcome::Finished,
+        spent,
+        counts,
+    }
+}
+
+// A program runs to its end, stands so there, and has written these lines.
 fn try_program<H: Holding + Drop>(
     rt: &impl Abort,
     heap: Global,
     program: Program,
     holding: H,
     lines: &[LineRow],
-    spent: u32,
-    counts: Counts,
+    end: Standing,
 ) -> Result<(), Fail> {
     let mut machine = open(heap, program, holding)?;
     run(rt, &mut machine, 2000);
-    check_stands(rt, &machine, Outcome::Finished, spent, counts);
+    assert_eq!(rt; Standing::of(&machine), end);
     check_lines(rt, &machine, lines);
     Ok(())
 }
@@ -39,51 +46,46 @@ fn try_both(
     heap: Global,
     program: Program,
     lines: &[LineRow],
-    spent: u32,
-    counts: Counts,
+    end: Standing,
 ) -> Result<(), Fail> {
-    try_program(rt, heap, program, OpenHolding::new(), lines, spent, counts)?;
-    try_program(
-        rt,
-        heap,
-        program,
-        SplitHolding::new(2026),
-        lines,
-        spent,
-        counts,
-    )
+    try_program(rt, heap, program, OpenHolding::new(), lines, end)?;
+    try_program(rt, heap, program, SplitHolding::new(2026), lines, end)
 }
 
 // Every expression but calls, on public and held figures: and, or and choice run what they need and no more, and a held
 // quotient by zero is 0.
 #[test]
 fn expressions(rt: HostRuntime) -> Result<(), Fail> {
-    let counts = Counts { puts: 11, ops: 9 };
-    try_both(&rt, rt.alloc(), EXPRESSIONS, &EXPRESSIONS_LINES, 73, counts)
+    let end = finished(73, Counts { puts: 11, ops: 9 });
+    try_both(&rt, rt.alloc(), EXPRESSIONS, &EXPRESSIONS_LINES, end)
 }
 
 // Every statement but a return with a value: loops that break, continue and end, both branches, and a held definition.
 #[test]
 fn statements(rt: HostRuntime) -> Result<(), Fail> {
-    let counts = Counts { puts: 3, ops: 0 };
-    try_both(&rt, rt.alloc(), STATEMENTS, &STATEMENTS_LINES, 187, counts)
+    let end = finished(187, Counts { puts: 3, ops: 0 });
+    try_both(&rt, rt.alloc(), STATEMENTS, &STATEMENTS_LINES, end)
 }
 
 // Calls within arguments, of procedures with a public result, a held one and none; a local is 0 again at each call.
 #[test]
 fn calls(rt: HostRuntime) -> Result<(), Fail> {
-    let counts = Counts { puts: 12, ops: 7 };
-    try_both(&rt, rt.alloc(), CALLS, &CALLS_LINES, 118, counts)
+    let end = finished(118, Counts { puts: 12, ops: 7 });
+    try_both(&rt, rt.alloc(), CALLS, &CALLS_LINES, end)
 }
 
 // A public quotient by zero ends the run, and nothing is run after that.
 #[test]
 fn zero_divisor(rt: HostRuntime) -> Result<(), Fail> {
     let mut machine = open(rt.alloc(), ZERO_DIVISOR, OpenHolding::new())?;
-    let counts = Counts { puts: 1, ops: 0 };
+    let end = Standing {
+        outcome: Outcome::ZeroDivisor,
+        spent: 9,
+        counts: Counts { puts: 1, ops: 0 },
+    };
     for _ in 0..2 {
         run(&rt, &mut machine, 1000);
-        check_stands(&rt, &machine, Outcome::ZeroDivisor, 9, counts);
+        assert_eq!(rt; Standing::of(&machine), end);
         check_lines(&rt, &machine, &ZERO_DIVISOR_LINES);
     }
     Ok(())
@@ -116,8 +118,8 @@ fn deepest(rt: HostRuntime) -> Result<(), Fail> {
         (LineKind::Release, 1021, 1024, DataType::Int, MINUS_7),
         (LineKind::Output, 1023, 1024, DataType::Int, MINUS_7),
     ];
-    let counts = Counts { puts: 2, ops: 1019 };
-    try_both(&rt, rt.alloc(), program, &lines, 1024, counts)
+    let end = finished(1024, Counts { puts: 2, ops: 1019 });
+    try_both(&rt, rt.alloc(), program, &lines, end)
 }
 
 // The lines of the first 256 rounds of the loop that counts.
@@ -141,11 +143,21 @@ fn last_line(rt: HostRuntime) -> Result<(), Fail> {
         puts: 258,
         ops: 257,
     };
-    check_stands(&rt, &machine, Outcome::More, 3084, counts);
+    let before = Standing {
+        outcome: Outcome::More,
+        spent: 3084,
+        counts,
+    };
+    assert_eq!(rt; Standing::of(&machine), before);
+    let end = Standing {
+        outcome: Outcome::LinesFull,
+        spent: 3085,
+        counts,
+    };
     for steps in [1, 1000] {
         run(&rt, &mut machine, steps);
         check_lines(&rt, &machine, &lines);
-        check_stands(&rt, &machine, Outcome::LinesFull, 3085, counts);
+        assert_eq!(rt; Standing::of(&machine), end);
     }
     let Value::Held(sum) = machine.store.read(1) else {
         return Err(Fail::new("a plain sum"));

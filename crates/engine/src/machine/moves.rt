@@ -1,10 +1,8 @@
 // A move is done, and a signal goes up.
 ghost use Rattle.std.specs.Prelude.{◌≡◌, true, false, ◌&&◌, length, Some};
-ghost use Rattle.semantics.specs.Machine as model;
 ghost use Rattle.engine.specs.Shape.{is_argument, in_call, signal_fits, move_fits};
 ghost use Rattle.engine.specs.Standing.{entries};
-ghost use Rattle.engine.specs.View.{move_of};
-ghost use Rattle.engine.specs.Running.{program, frames, standing, handing, handed_fits, HandedSame, HandedLess};
+ghost use Rattle.engine.specs.Running.{program, standing, handing, driving, handed_fits, HandedSame, HandedLess};
 
 use super::Machine;
 use crate::frames::{Entry, Move};
@@ -20,7 +18,7 @@ impl<H: Holding + Drop> Machine<H> {
     pub(crate) fn drive(&mut self, step: Move) -> Option<Signal<Shares>>
         requires { move_fits (program self.old) (length (entries self.old.control)) step ≡ true }
         ensures tables { self.new.control.tables ≡ self.old.control.tables }
-        ensures stands { handing H.stands result self.new ≡ (let m = self.old in model.drive (program m) (frames H.stands m) (model.pass (program m) (frames H.stands m)) m.sheet (move_of H.stands step m.store)) }
+        ensures stands { handing H.stands result self.new ≡ driving H.stands step self.old }
         ensures entries { HandedSame result (entries self.old.control) (entries self.new.control) }
         ensures fits { handed_fits (program self.new) (length (entries self.new.control)) result ≡ true }
     {

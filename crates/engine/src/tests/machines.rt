@@ -16,6 +16,24 @@ use words::types::DataType;
 // A line as a row: its kind, node, steps, data type and word.
 pub type LineRow = (LineKind, u16, u32, DataType, u32);
 
+// How a run stands, the steps that it spent, and the words put in and operators done.
+#[derive(Clone, Copy, PartialEq, Eq, Debug)]
+pub struct Standing {
+    pub outcome: Outcome,
+    pub spent: u32,
+    pub counts: Counts,
+}
+
+impl Standing {
+    pub(crate) fn of<H: Holding + Drop>(machine: &Machine<H>) -> Standing {
+        Standing {
+            outcome: outcome(machine.control.next),
+            spent: machine.sheet.spent(),
+            counts: machine.store.holding.tally(),
+        }
+    }
+}
+
 pub(crate) fn open<H: Holding + Drop>(
     heap: Global,
     program: Program,
@@ -51,19 +69,6 @@ fn line((kind, node, steps, data_type, word): LineRow) -> Line {
     }
 }
 
-// How a run stands, the steps that it spent, and the words put in and operators done.
-pub(crate) fn check_stands<H: Holding + Drop>(
-    rt: &impl Abort,
-    machine: &Machine<H>,
-    how: Outcome,
-    spent: u32,
-    counts: Counts,
-) {
-    assert_eq!(rt; outcome(machine.control.next), how);
-    assert_eq!(rt; machine.sheet.spent(), spent);
-    assert_eq!(rt; machine.store.holding.tally(), counts);
-}
-
 pub(crate) fn check_lines<H: Holding + Drop>(
     rt: &impl Abort,
     machine: &Machine<H>,
@@ -82,7 +87,6 @@ pub(crate) fn check_alike<H: Holding + Drop>(
     other: &Machine<H>,
 ) {
     assert_eq!(rt; one.control.next, other.control.next);
-    assert_eq!(rt; one.sheet.spent(), other.sheet.spent());
-    assert_eq!(rt; one.store.holding.tally(), other.store.holding.tally());
+    assert_eq!(rt; Standing::of(one), Standing::of(other));
     assert_eq!(rt; one.sheet.lines(), other.sheet.lines());
 }
