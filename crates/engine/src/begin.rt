@@ -3,14 +3,12 @@
 ghost use Rattle.std.specs.Prelude.{◌≡◌, true};
 ghost use Rattle.semantics.specs.Checked.{Descends};
 ghost use Rattle.semantics.specs.Machine.{begins};
-ghost use Rattle.semantics.specs.State.{node_of, level_at, stored};
-ghost use Rattle.semantics.specs.declared.values.Signal.TheVariants.{Falls};
-ghost use Rattle.semantics.specs.declared.values.Value.TheVariants.{Plain};
+ghost use Rattle.semantics.specs.State.{node_of};
 ghost use Rattle.tables.specs.View.{view};
 ghost use Rattle.engine.specs.Shape.{move_below};
 ghost use Rattle.engine.specs.View.{move_of};
 ghost use Rattle.engine.specs.declared.frames.Frame.TheVariants.{Wait};
-ghost use Rattle.engine.specs.declared.frames.Move.TheVariants.{Under, Over};
+ghost use Rattle.engine.specs.declared.frames.Move.TheVariants.{Under};
 
 use crate::frames::{Frame, Move};
 use crate::records::{figure_type, typed_node};

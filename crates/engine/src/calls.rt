@@ -1,8 +1,7 @@
 // Calls: the locals of a procedure become 0, and its body begins.
-ghost use Rattle.std.specs.Prelude.{◌≡◌, true, [], if◌then◌else◌, nat_lt};
+ghost use Rattle.std.specs.Prelude.{◌≡◌, true, [], nat_lt};
 ghost use Rattle.semantics.specs.Machine.{argued};
-ghost use Rattle.semantics.specs.State.{stored, is_local_of, cleared, procedure as procedure_at};
-ghost use Rattle.semantics.specs.declared.values.Value.TheVariants.{Plain};
+ghost use Rattle.semantics.specs.State.{cleared, procedure as procedure_at};
 ghost use Rattle.tables.specs.View.{view};
 ghost use Rattle.engine.specs.Shape.{next_below, move_below};
 ghost use Rattle.engine.specs.View.{move_of};

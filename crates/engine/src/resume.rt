@@ -1,10 +1,8 @@
 // What a node does with the value that it waited for.
 ghost use Rattle.std.specs.Prelude.{◌≡◌, true, if◌then◌else◌, nat_lt};
 ghost use Rattle.semantics.specs.Machine.{first, got, got_both};
-ghost use Rattle.semantics.specs.State.{word_in, settled, stored, level_at};
-ghost use Rattle.semantics.specs.declared.lines.LineKind.TheVariants.{Release as ReleaseLine, Output as OutputLine};
+ghost use Rattle.semantics.specs.State.{word_in};
 ghost use Rattle.semantics.specs.declared.values.Signal.TheVariants.{Gives, Falls};
-ghost use Rattle.semantics.specs.declared.values.Value.TheVariants.{Plain};
 ghost use Rattle.tables.specs.View.{view};
 ghost use Rattle.engine.specs.Shape.{want_below, move_below};
 ghost use Rattle.engine.specs.View.{value_of, want_of, move_of};
@@ -42,28 +40,16 @@ fn guarded(holds: bool, step: Move) -> Move
     }
 }
 
-fn output(node: u16, data_type: DataType, word: u32) -> Move
-    ensures { result ≡ Write (record { kind = OutputLine; node = node; data_type = data_type; word = word }) Falls }
+fn line(kind: LineKind, node: u16, data_type: DataType, word: u32, signal: Signal<Shares>) -> Move
+    ensures { result ≡ Write (record { kind = kind; node = node; data_type = data_type; word = word }) signal }
 {
     let draft = Draft {
-        kind: LineKind::Output,
+        kind,
         node,
         data_type,
         word,
     };
-    Move::Write(draft, Signal::Falls)
-}
-
-fn release(node: u16, data_type: DataType, word: u32) -> Move
-    ensures { result ≡ Write (record { kind = ReleaseLine; node = node; data_type = data_type; word = word }) (Gives (Plain word)) }
-{
-    let draft = Draft {
-        kind: LineKind::Release,
-        node,
-        data_type,
-        word,
-    };
-    Move::Write(draft, Signal::Gives(Value::Plain(word)))
+    Move::Write(draft, signal)
 }
 
 impl<H: Holding + Drop> Store<H> {
@@ -144,8 +130,20 @@ impl<H: Holding + Drop> Store<H> {
             Want::Chosen => give(self.settle(tables.level(n), figure)),
             Want::Assign(variable) => give(self.assign(tables, variable as usize, figure)),
             Want::Argue(next) => Move::Over(Signal::Argues(figure, next)),
-            Want::Release(data_type) => release(n, data_type, self.word(figure)),
-            Want::Output(data_type) => output(n, data_type, plain_word(figure)),
+            Want::Release(data_type) => {
+                let word = self.word(figure);
+                let shown = Signal::Gives(Value::Plain(word));
+                line(LineKind::Release, n, data_type, word, shown)
+            }
+            Want::Output(data_type) => {
+                line(
+                    LineKind::Output,
+                    n,
+                    data_type,
+                    plain_word(figure),
+                    Signal::Falls,
+                )
+            }
             Want::Discard => Move::Over(Signal::Falls),
             Want::Branch(node) => guarded(holds(figure), Move::Begin(node)),
             Want::BranchElse(branch, otherwise) => {

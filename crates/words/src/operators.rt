@@ -2,7 +2,6 @@
 ghost use Rattle.std.specs.Prelude.{◌≡◌};
 ghost use Rattle.words.specs.Operators.{minus_word, not_word, and_word, or_word, arithmetic_word, held_arithmetic_word, comparison_word};
 ghost use Rattle.words.specs.Worked.{ArithmeticCases, ComparisonCases};
-ghost use Rattle.words.specs.declared.types.Arithmetic.TheVariants.{Divide as Divided, Remainder as Rest};
 
 use crate::ints::{int_of_word, value_at, word_of_int};
 use crate::types::{Arithmetic, Comparison, DataType};

@@ -1,10 +1,9 @@
 // Arguments that have run: their figures wait on the stack, and once all have run the parameters are set, in order.
-ghost use Rattle.std.specs.Prelude.{◌≡◌, ◌+◌, ◌≤◌, true, length, Some, None, nat_lt, Option};
-ghost use Rattle.semantics.specs.State.{procedure as procedure_at, level_at, stored, bound};
+ghost use Rattle.std.specs.Prelude.{◌≡◌, ◌+◌, ◌≤◌, true, length, Some, None, nat_lt};
+ghost use Rattle.semantics.specs.State.{procedure as procedure_at, bound};
 ghost use Rattle.semantics.specs.declared.values.Signal.TheVariants.{Argues};
 ghost use Rattle.engine.specs.Shape.{in_call, depth_fits, argument_fits};
 ghost use Rattle.engine.specs.Standing.{entries};
-ghost use Rattle.engine.specs.View.{value_of};
 ghost use Rattle.engine.specs.Passing.{call_of, under_call, passed};
 ghost use Rattle.engine.specs.Running.{program, standing, handing};
 ghost use Rattle.engine.specs.declared.frames.Frame.TheVariants.{Calling};

@@ -112,6 +112,7 @@ pub struct Program<'a> {
     pub procedures: &'a [ProcedureRow],
 }
 
+// A function for each sort of row, since each has a layout of its own.
 fn push_node(file: &mut Vec<u8>, row: &NodeRow) -> Result<(), AllocError> {
     let (kind, sort, a, b, c, word) = *row;
     file.extend_from_slice(&[kind, sort])?;
