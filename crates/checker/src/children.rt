@@ -22,6 +22,7 @@ impl<L> Site<'_, L> {
         (node.procedure == self.procedure).then_some(node.class)
     }
 
+    // A function for each class: no function takes a pattern, and a closure that has it would stand at every call.
     fn is_value(&self, child: u16) -> bool
         ensures { result ≡ value_child (view self.now.tables.now) self.now.place self.now.procedure child }
     {

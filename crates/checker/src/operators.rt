@@ -29,6 +29,8 @@ fn takes(row: usize, data_type: DataType) -> bool
     ALLOWED[row][data_type as usize]
 }
 
+// Whether an operator takes a data type, if there is one. A function for each sort of operators: a trait that gives a row for
+// both would be longer than the two.
 pub(crate) fn arithmetic_takes(operator: Arithmetic, data_type: Option<DataType>) -> bool
     ensures { result ≡ arithmetic_takes data_type }
 {
