@@ -1,4 +1,5 @@
-// Row 17: each node but a body is named as a child exactly once.
+// Row 17: each node but a body is named as a child exactly once. That there are at most 1024 is asked three times: as a ghost field it
+// would be asked of everyone who makes tables.
 ghost use Rattle.std.specs.Prelude.{◌≡◌, ◌≤◌, ◌||◌, [], length, replicate, fold, vec_capacity};
 ghost use Rattle.program.specs.Program.{children, optional};
 ghost use Rattle.typing.specs.Faults.{name_fault};

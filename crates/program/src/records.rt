@@ -4,7 +4,8 @@ ghost use Rattle.program.specs.Program.{present, children};
 
 use words::types::{Arithmetic, Comparison, DataType};
 
-// A node of a program's trees. Nodes, variables and procedures are named by their numbers.
+// A node of a program's trees. Nodes, variables and procedures are named by their numbers, as in a file: a tree of boxes would ask
+// for memory at every check.
 #[derive(Clone, Copy)]
 pub enum Node {
     Constant {

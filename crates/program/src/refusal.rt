@@ -22,6 +22,7 @@ pub enum Refusal {
     Naming(u16),
 }
 
+// Two numbers of one refusal, and so methods: a conversion could give only one.
 impl Refusal {
     // The number of the row.
     pub fn row(self) -> u8
