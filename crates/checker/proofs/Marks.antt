@@ -11,7 +11,7 @@ use Rattle.typing.specs.declared.classes.TypedNode.{TypedNode}
 use Rattle.typing.proofs.Rising.{first_same}
 use Rattle.tables.specs.declared.tables.Naming.{Naming}
 use Rattle.tables.specs.declared.tables.Naming.TheVariants.{Never, Once, Often}
-use Rattle.checker.specs.Names.{more, is_once, marked, marked_all, marked_by, names_of, count_fault}
+use Rattle.checker.specs.Names.{more, is_once, marked, marked_all, marked_by, count_fault}
 
 -- the entry of a node that is named t times
 tally : ℕ → Naming
@@ -76,6 +76,10 @@ folded_at (n ∷ ns) ms k t lt h =
 length_folded : (ns : List TypedNode) (ms : List Naming) → length (fold marked_by ms ns) ≡ length ms
 length_folded [] ms = refl
 length_folded (n ∷ ns) ms = length_folded ns (marked_by ms n) ∙ length_all (children n.node) ms
+
+-- what all nodes name
+abbrev pub names_of : List TypedNode → List Naming
+names_of ns = fold marked_by (replicate (length ns) Never) ns
 
 length_names : (ns : List TypedNode) → length (names_of ns) ≡ length ns
 length_names ns = length_folded ns (replicate (length ns) Never) ∙ length-replicate (length ns) Never

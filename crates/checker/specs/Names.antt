@@ -1,5 +1,5 @@
 -- How often each node is named as a child, counted node by node. Assumes nothing.
-use Rattle.std.specs.Prelude.{ℕ, Bool, true, false, cond, ◌||◌, List, [], ◌∷◌, length, replicate, fold, Option, nat_lt, slice_index_or, slice_set}
+use Rattle.std.specs.Prelude.{ℕ, Bool, true, false, cond, ◌||◌, List, [], ◌∷◌, length, Option, nat_lt, slice_index_or, slice_set}
 use Rattle.program.specs.Program.{children}
 use Rattle.program.specs.declared.records.Procedure.{Procedure}
 use Rattle.program.specs.declared.refusal.Refusal.{Refusal}
@@ -30,10 +30,6 @@ marked_all ms (k ∷ ks) = marked_all (marked ms k) ks
 
 abbrev pub marked_by : List Naming → TypedNode → List Naming
 marked_by ms n = marked_all ms (children n.node)
-
--- what all nodes name
-abbrev pub names_of : List TypedNode → List Naming
-names_of ns = fold marked_by (replicate (length ns) Never) ns
 
 -- row 17 at node k, by what was counted
 abbrev pub count_fault : List Procedure → List Naming → ℕ → Option Refusal

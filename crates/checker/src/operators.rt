@@ -26,7 +26,7 @@ fn takes(row: usize, data_type: DataType) -> bool
     requires { row < 11 }
     ensures { result ≡ allowed row (type_number data_type) }
 {
-    ALLOWED[row][data_type as usize]
+    ALLOWED[row][usize::from(u8::from(data_type))]
 }
 
 // Whether an operator takes a data type, if there is one. A function for each sort of operators: a trait that gives a row for
@@ -34,11 +34,11 @@ fn takes(row: usize, data_type: DataType) -> bool
 pub(crate) fn arithmetic_takes(operator: Arithmetic, data_type: Option<DataType>) -> bool
     ensures { result ≡ arithmetic_takes data_type }
 {
-    data_type.is_some_and(|data_type| takes(operator as usize, data_type))
+    data_type.is_some_and(|data_type| takes(usize::from(u8::from(operator)), data_type))
 }
 
 pub(crate) fn comparison_takes(operator: Comparison, data_type: Option<DataType>) -> bool
     ensures { result ≡ comparison_takes operator data_type }
 {
-    data_type.is_some_and(|data_type| takes(5 + operator as usize, data_type))
+    data_type.is_some_and(|data_type| takes(5 + usize::from(u8::from(operator)), data_type))
 }

@@ -1,5 +1,5 @@
 -- The arguments of a command: the fields after its name. Assumes nothing.
-use Rattle.std.specs.Prelude.{◌≡◌, ℕ, cond, List, [], ◌∷◌, length, Ok, Err, Result, MatchResult, ◌==◌, ◌≢◌, slice_index_or}
+use Rattle.std.specs.Prelude.{◌≡◌, ℕ, ◌^◌, ◌<◌, cond, List, [], ◌∷◌, length, Ok, Err, Result, MatchResult, ◌==◌, ◌≢◌, slice_index_or}
 use Rattle.std.specs.Borrow.{Bor}
 use Rattle.std.specs.Option.{ok_or}
 use Rattle.commands.specs.declared.types.Problem.{Problem}
@@ -28,7 +28,7 @@ Taken wanted all r rest = MatchResult r (λ x. all ≡ x.now ∷ rest) (λ e. (e
 
 -- a function reads just what `number` says of each argument and its number
 abbrev pub Reads : (ℕ → Bor (List ℕ) → Result ℕ Problem → Type 0) → (ℕ → List ℕ → Result ℕ Problem) → Type 0
-Reads gives number = (n : ℕ) (argument : Bor (List ℕ)) (r : Result ℕ Problem) → gives n argument r → r ≡ number n argument.now
+Reads gives number = (n : ℕ) (argument : Bor (List ℕ)) (r : Result ℕ Problem) → n < 2 ^ 8 → gives n argument r → r ≡ number n argument.now
 
 -- what is made of what is left of the arguments, where it is just so many; the command takes `wanted` in all
 abbrev pub no_argument : {X : Type 0} → ℕ → Result X Problem → List (List ℕ) → Result X Problem

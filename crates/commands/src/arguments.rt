@@ -7,7 +7,8 @@ use crate::fields::Fields;
 use crate::numbers::{read_int, read_word};
 use crate::types::Problem;
 
-// An argument that is read as a word, or as an int. One function for both would be given a reader and a problem, and be no shorter.
+// An argument that is read as a word, or as an int. One function for both would be given a reader and a problem, and be no
+// shorter.
 pub fn word_argument(number: u8, argument: &[u8]) -> Result<u32, Problem>
     ensures { result ≡ word_argument number argument.now }
 {

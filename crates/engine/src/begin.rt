@@ -1,5 +1,5 @@
-// What a node does as it begins. The tables and the node's number stay two parameters: in a struct that borrows the tables, clauses
-// would have to name the two as `site.entry.tables.now` and `site.entry.number`.
+// What a node does as it begins. The tables and the node's number stay two parameters: in a struct that borrows the tables,
+// clauses would have to name the two as `site.entry.tables.now` and `site.entry.number`.
 ghost use Rattle.std.specs.Prelude.{◌≡◌, true};
 ghost use Rattle.semantics.specs.Checked.{Descends};
 ghost use Rattle.semantics.specs.Machine.{begins};

@@ -28,8 +28,8 @@ pub enum Entry {
     Passed(Value<Shares>),
 }
 
-// What is done next: begin another node, begin one under a new frame, end, write a line and end, or end the run. That the nodes of a
-// move lie below its own is said where one is made, since an enum has no ghost field.
+// What is done next: begin another node, begin one under a new frame, end, write a line and end, or end the run. That the
+// nodes of a move lie below its own is said where one is made, since an enum has no ghost field.
 #[derive(Clone, Copy)]
 pub enum Move {
     Begin(u16),

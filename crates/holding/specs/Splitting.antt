@@ -4,19 +4,9 @@ use Rattle.holding.specs.Counts.{one_put, one_op}
 use Rattle.holding.specs.declared.shares.Shares.{Shares}
 use Rattle.holding.specs.declared.split.SplitHolding.{SplitHolding}
 
--- the sum and the difference of two words, wrapped
-abbrev plus : ℕ → ℕ → ℕ
-plus a b = (a + b) % 2 ^ 32
-
+-- the difference of two words, wrapped
 abbrev less : ℕ → ℕ → ℕ
 less a b = (a + (2 ^ 32 - b)) % 2 ^ 32
-
--- the same share by share
-abbrev pub shares_sum : Shares → Shares → Shares
-shares_sum x y = record { first = plus x.first y.first; second = plus x.second y.second; third = plus x.third y.third }
-
-abbrev pub shares_difference : Shares → Shares → Shares
-shares_difference x y = record { first = less x.first y.first; second = less x.second y.second; third = less x.third y.third }
 
 -- the mask drawn from a mask word, which is the mask word after it
 abbrev pub next_mask : ℕ → ℕ

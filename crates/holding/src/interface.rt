@@ -10,8 +10,8 @@ use crate::shares::{Counts, Shares};
 use words::types::{Arithmetic, Comparison, DataType};
 
 // A holding. Its meaning is a fixed function from three words to the word that they stand for, and its counts. No call refuses.
-// Each method says what it counts, since a law cannot speak of calls. An operator and its data type are one in the engine and two
-// here, since a method is for one sort of operators.
+// Each method says what it counts, since a law cannot speak of calls. An operator and its data type are one in the engine
+// and two here, since a method is for one sort of operators.
 pub trait Holding {
     ghost stands: { Shares → ℕ };
 

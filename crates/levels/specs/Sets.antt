@@ -1,5 +1,5 @@
 -- Sets of members keep the laws of a kind of levels, at every width.
-use Rattle.std.specs.Prelude.{◌≡◌, refl, Bool, true, false, cond, ◌&&◌, ℕ, ◌^◌, ◌<◌, ltb, eqb}
+use Rattle.std.specs.Prelude.{◌≡◌, Bool, true, false, cond, ◌&&◌, ℕ, ◌^◌, ◌<◌, ltb, eqb}
 use Rattle.std.proofs.Common.{sym, ap, ◌∙◌, pow_pos, ltb-true, lt-ltb, eqb-true, eq-eqb}
 use Rattle.std.specs.Int.Bits.{bit_and, bit_or, and_self, and_zero_l, and_zero_r}
 use Rattle.std.proofs.lemmas.Nat.{or_comm, or_lt}

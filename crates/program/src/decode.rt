@@ -1,5 +1,5 @@
-// What the fields of a record stand for. The numbers of kinds, uses and result types are known here alone. Each gives an Option, since
-// the error of a TryFrom would have nothing to add: the row of the record says what is wrong.
+// What the fields of a record stand for. The numbers of kinds, uses and result types are known here alone. Each gives an
+// Option, since the error of a TryFrom would have nothing to add: the row of the record says what is wrong.
 ghost use Rattle.std.specs.Prelude.{◌≡◌, true, false};
 ghost use Rattle.program.specs.Decode.{node_decoded, variable_decoded, procedure_decoded, absent_or, word_fits, role_decoded, result_decoded, is_statement_kind};
 

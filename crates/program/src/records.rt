@@ -4,8 +4,8 @@ ghost use Rattle.program.specs.Program.{present, children};
 
 use words::types::{Arithmetic, Comparison, DataType};
 
-// A node of a program's trees. Nodes, variables and procedures are named by their numbers, as in a file: a tree of boxes would ask
-// for memory at every check.
+// A node of a program's trees. Nodes, variables and procedures are named by their numbers, as in a file: a tree of boxes
+// would ask for memory at every check.
 #[derive(Clone, Copy)]
 pub enum Node {
     Constant {
@@ -139,7 +139,7 @@ impl Node {
 }
 
 // Where a variable belongs; locals and parameters to the procedure of a number.
-#[derive(Clone, Copy, PartialEq, Eq, Debug)]
+#[derive(Clone, Copy, PartialEq, Eq)]
 pub enum Role {
     Global,
     Input,

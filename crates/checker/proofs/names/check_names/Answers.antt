@@ -3,9 +3,9 @@ use Rattle.std.proofs.Common.{◌≡◌, List, length, vec_items, ap, ◌∙◌,
 use Rattle.std.proofs.Math.Seq.{take-append_seam}
 use Rattle.typing.specs.First.{first}
 use Rattle.tables.specs.declared.tables.Naming.{Naming}
-use Rattle.checker.specs.Names.{names_of, count_fault}
+use Rattle.checker.specs.Names.{count_fault}
 use Rattle.checker.specs.Records.{checked}
-use Rattle.checker.proofs.Marks.{counts_say}
+use Rattle.checker.proofs.Marks.{names_of, counts_say}
 use Rattle.checker.proofs.names.check_names.Goals as goal
 
 pub returns-clause-value : goal.returns-clause-value

@@ -1,5 +1,5 @@
 -- One argument further, by what was found of it.
-use Rattle.std.proofs.Common.{sym, ◌∙◌, rules}
+use Rattle.std.proofs.Common.{sym, ◌∙◌, rules, arith}
 use Rattle.checker.proofs.Further.{arguments_end, argument_missing, argument_broken, argument_fitting}
 use Rattle.checker.proofs.site.Site.arguments_fit.Goals as goal
 
@@ -9,12 +9,12 @@ returns-in_default g c = λ t h.
 
 pub returns-then-not-fits : goal.returns-then-not-fits
 returns-then-not-fits g c = λ t h.
-    let here = sym (h _ _ _ c.if-not-fits.ensures) in
+    let here = sym (h _ _ _ (omega arith) (search rules) c.if-not-fits.ensures) in
     sym (c.loop-i.invariant t h ∙ argument_broken _ _ _ _ _ _ _ c.loop-i-test.true _ _ c.in-Some.ensures here)
 
 pub loop-i-preserved : goal.loop-i-preserved
 loop-i-preserved g c = λ t h.
-    let here = sym (h _ _ _ c.if-not-fits.ensures) in
+    let here = sym (h _ _ _ (omega arith) (search rules) c.if-not-fits.ensures) in
     c.loop-i.invariant t h ∙ argument_fitting _ _ _ _ _ _ _ c.loop-i-test.true _ _ c.in-Some.ensures here
 
 pub returns : goal.returns
