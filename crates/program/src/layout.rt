@@ -29,7 +29,8 @@ fn is_closed(file: &[u8]) -> bool
     12 <= file.len() && is_closing(&file[file.len() - 4..])
 }
 
-// The number of four bytes, highest first, from a place on.
+// The number of four bytes, highest first, from a place on. They are read by their places: a pattern would have an arm that
+// is never reached.
 fn number_at(file: &[u8], place: usize) -> usize
     requires { place + 4 ≤ length file.now }
     ensures { result ≡ word_at file.now place }
