@@ -68,7 +68,10 @@ signed =
     record {
       quotients = λ a b h. ap (λ t. cond t None (Some (word_of (quot_z (int_of a) (int_of b))))) h;
       remainders = λ a b h. ap (λ t. cond t None (Some (word_of (rem_z (int_of a) (int_of b))))) h;
-      comparisons = λ a b. refl;
+      less = λ a b. refl;
+      less_or_equal = λ a b. refl;
+      greater = λ a b. refl;
+      greater_or_equal = λ a b. refl;
       held_alike = alike;
     }
 

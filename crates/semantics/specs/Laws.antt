@@ -1,11 +1,11 @@
 -- The laws of operators and of put-ins: a plain word is put in once where a held one is due, ints are signed, only a public operand skips the next, and a zero divisor
 -- stops a run only at level 0. Assumes nothing.
-use Rattle.std.specs.Prelude.{◌≡◌, ℕ, zero, suc, ◌+◌, Bool, true, false, cond, not, Some, ◌==◌, int_div, int_lt, int_rem}
+use Rattle.std.specs.Prelude.{◌≡◌, ℕ, zero, suc, ◌+◌, Bool, true, false, cond, not, Some, ◌==◌, int_div, int_le, int_lt, int_rem}
 use Rattle.words.specs.Ints.{int_of, word_of}
 use Rattle.words.specs.Operators.{truth, bit, by_zero, held_arithmetic_word}
 use Rattle.words.specs.declared.types.Arithmetic.{Arithmetic as Calculation}
 use Rattle.words.specs.declared.types.Arithmetic.TheVariants.{Divide, Remainder}
-use Rattle.words.specs.declared.types.Comparison.TheVariants.{Less}
+use Rattle.words.specs.declared.types.Comparison.TheVariants.{Less, LessOrEqual, Greater, GreaterOrEqual}
 use Rattle.words.specs.declared.types.DataType.{DataType}
 use Rattle.words.specs.declared.types.DataType.TheVariants.{Int}
 use Rattle.levels.specs.Rules.{Rules}
@@ -53,7 +53,10 @@ pub record PutInOnce : Type 0 where
 pub record Signed : Type 0 where
   pub quotients : (a b : ℕ) → (b == 0) ≡ false → plain_result (Calculates Divide Int) a b ≡ Some (word_of (int_div (int_of a) (int_of b)))
   pub remainders : (a b : ℕ) → (b == 0) ≡ false → plain_result (Calculates Remainder Int) a b ≡ Some (word_of (int_rem (int_of a) (int_of b)))
-  pub comparisons : (a b : ℕ) → plain_result (Compares Less Int) a b ≡ Some (bit (int_lt (int_of a) (int_of b)))
+  pub less : (a b : ℕ) → plain_result (Compares Less Int) a b ≡ Some (bit (int_lt (int_of a) (int_of b)))
+  pub less_or_equal : (a b : ℕ) → plain_result (Compares LessOrEqual Int) a b ≡ Some (bit (int_le (int_of a) (int_of b)))
+  pub greater : (a b : ℕ) → plain_result (Compares Greater Int) a b ≡ Some (bit (int_lt (int_of b) (int_of a)))
+  pub greater_or_equal : (a b : ℕ) → plain_result (Compares GreaterOrEqual Int) a b ≡ Some (bit (int_le (int_of b) (int_of a)))
   pub held_alike : (o : Operator) (a b w : ℕ) → plain_result o a b ≡ Some w → held_result o a b ≡ w
 
 -- what operators keep to in a well-typed program, whose operands run from cells that fit

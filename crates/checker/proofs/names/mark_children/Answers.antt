@@ -6,14 +6,6 @@ use Rattle.checker.proofs.Marks.{marked_if, present_marked}
 use Rattle.checker.specs.Names.{marked_all}
 use Rattle.checker.proofs.names.mark_children.Goals as goal
 
-pub loop-child-preserved : goal.loop-child-preserved
-loop-child-preserved c =
-    let os = c.children-child-items.result in
-    let i = c.loop-child.child-index in
-    c.mark.ensures
-    ∙ ap (λ (ms : List Naming). marked_if ms (get_or os i None)) c.loop-child.invariant
-    ∙ sym (fold_more marked_if c.args.names.now os i None (omega arith))
-
 pub returns : goal.returns
 returns c =
     let os = c.children-child-items.result in

@@ -22,3 +22,6 @@ pub returns-in_err-one_argument-in-99 : goal.returns-in_err-one_argument-in-99
 returns-in_err-one_argument-in-99 c =
     let name : c.args.name.now ≡ codes "check-file" = text_from_reads _ (codes "check-file") (omega arith) (search rules) in
     rw name (search rules)
+
+pub returns-in_default : goal.returns-in_default
+returns-in_default c = search rules
