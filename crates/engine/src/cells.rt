@@ -8,7 +8,8 @@ mod lend;
 // How many variables a program may have.
 pub const CELLS: usize = 128;
 
-// The array's length is a ghost field: without one no proof is found that what is written to a lent cell stays.
+// An array, since a run asks for no memory. Its length is a ghost field: without one no proof is found that what is written to
+// a lent cell stays.
 #[derive(Drop)]
 pub struct Cells<S> {
     cells: [Value<S>; CELLS],

@@ -40,6 +40,7 @@ fn guarded(holds: bool, step: Move) -> Move
     }
 }
 
+// The one place where a draft is made of its parts.
 fn line(kind: LineKind, node: u16, data_type: DataType, word: u32, signal: Signal<Shares>) -> Move
     ensures { result ≡ Write (record { kind = kind; node = node; data_type = data_type; word = word }) signal }
 {

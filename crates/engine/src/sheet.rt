@@ -17,7 +17,7 @@ pub struct Draft {
     pub word: u32,
 }
 
-// No line more can be written.
+// No line more can be written. It ends a run and is not printed.
 #[derive(Clone, Copy)]
 pub struct LinesFull;
 

@@ -43,7 +43,7 @@ impl Counts {
     {
         Counts {
             puts: self.puts.wrapping_add(1),
-            ops: self.ops,
+            ..self
         }
     }
 
@@ -51,8 +51,8 @@ impl Counts {
         ensures { result ≡ one_op self }
     {
         Counts {
-            puts: self.puts,
             ops: self.ops.wrapping_add(1),
+            ..self
         }
     }
 }

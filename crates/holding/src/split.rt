@@ -80,6 +80,14 @@ impl SplitHolding {
         self.counts = self.counts.one_op();
         self.mask_afresh(res)
     }
+
+    // The same for a result that is a word.
+    fn hold_word(&mut self, word: u32) -> Shares
+        ensures shares { result ≡ shared self.old.mask word }
+        ensures after { self.new ≡ after_op self.old }
+    {
+        self.hold_result(Shares::alone(word))
+    }
 }
 
 impl Holding for SplitHolding {
@@ -112,7 +120,7 @@ impl Holding for SplitHolding {
         ensures after { self.new ≡ after_op self.old }
     {
         let word = operators::not(self.take_out(x));
-        self.hold_result(Shares::alone(word))
+        self.hold_word(word)
     }
 
     // Sums and differences are made share by share. The others are made of the words themselves.
@@ -132,7 +140,7 @@ impl Holding for SplitHolding {
             Arithmetic::Subtract => self.hold_result(by_share(x, y, |a, b| a.wrapping_sub(b))),
             Arithmetic::Multiply | Arithmetic::Divide | Arithmetic::Remainder => {
                 let word = operator.apply_held(data_type, self.take_out(x), self.take_out(y));
-                self.hold_result(Shares::alone(word))
+                self.hold_word(word)
             }
         }
     }
@@ -143,7 +151,7 @@ impl Holding for SplitHolding {
         ensures after { self.new ≡ after_op self.old }
     {
         let word = operator.apply(data_type, self.take_out(x), self.take_out(y));
-        self.hold_result(Shares::alone(word))
+        self.hold_word(word)
     }
 
     fn and(&mut self, x: Shares, y: Shares) -> Shares
@@ -152,7 +160,7 @@ impl Holding for SplitHolding {
         ensures after { self.new ≡ after_op self.old }
     {
         let word = operators::and(self.take_out(x), self.take_out(y));
-        self.hold_result(Shares::alone(word))
+        self.hold_word(word)
     }
 
     fn or(&mut self, x: Shares, y: Shares) -> Shares
@@ -161,7 +169,7 @@ impl Holding for SplitHolding {
         ensures after { self.new ≡ after_op self.old }
     {
         let word = operators::or(self.take_out(x), self.take_out(y));
-        self.hold_result(Shares::alone(word))
+        self.hold_word(word)
     }
 
     fn take_out(&self, x: Shares) -> u32 {

@@ -1,6 +1,6 @@
 -- The fields of a record and its bytes determine each other.
 use Rattle.std.proofs.Common.{◌≡◌, ℕ, ◌+◌, ◌*◌, ◌/◌, ◌%◌, ◌<◌, ◌≤◌, List, ◌∷◌, ◌++◌, length, get_or, drop, refl, ap, ◌∙◌, arith}
-use Rattle.std.proofs.lemmas.List.{drop_more}
+use Rattle.std.proofs.lemmas.List.{drop_more, get_or-drop}
 use Rattle.program.specs.Encode.{node_encoded, variable_encoded, procedure_encoded, half_bytes, word_bytes, node_bytes, variable_bytes, procedure_bytes}
 use Rattle.program.specs.Fields.{half_at, word_at, node_fields_of, variable_fields_of, procedure_fields_of}
 use Rattle.program.specs.declared.records.Node.{Node}
@@ -21,6 +21,12 @@ fields_of_variable_bytes v rest = simp (half_again, word_again)
 
 pub fields_of_procedure_bytes : (d : Procedure) (rest : List ℕ) → procedure_fields_of (procedure_bytes d ++ rest) ≡ procedure_encoded d
 fields_of_procedure_bytes d rest = simp (half_again, word_again)
+
+-- the number at j is that at i of what is left after e bytes
+pub word_dropped : (bs : List ℕ) (e i j : ℕ) → e + i ≡ j → word_at (drop e bs) i ≡ word_at bs j
+word_dropped bs e i j h =
+    let at : (k : ℕ) → get_or (drop e bs) (i + k) 0 ≡ get_or bs (j + k) 0 = λ k. get_or-drop e bs (i + k) 0 ∙ ap (λ m. get_or bs m 0) (omega arith) in
+    cc (get_or-drop e bs i 0, at 1, at 2, at 3)
 
 -- ---- and back
 

@@ -1,11 +1,11 @@
 -- The parts of a program's file, and a file's trailer by its layout.
 use Rattle.std.proofs.Common.{◌≡◌, ℕ, ◌+◌, ◌-◌, ◌*◌, ◌<◌, ◌≤◌, List, [], ◌∷◌, ◌++◌, length, get_or, drop, sym, refl, ap, ◌∙◌, append_assoc, arith, length-append}
-use Rattle.std.proofs.lemmas.List.{drop_at, drop-drop, get_or-drop}
+use Rattle.std.proofs.lemmas.List.{drop_at, drop-drop}
 use Rattle.program.specs.Encode.{encoded, each, node_bytes, variable_bytes, procedure_bytes, trailer_bytes, word_bytes}
 use Rattle.program.specs.Fields.{word_at}
 use Rattle.program.specs.Program.{Program, no_node, no_variable, no_procedure}
 use Rattle.program.specs.declared.layout.Layout.{Layout}
-use Rattle.program.proofs.Bytes.{word_again, word_cut}
+use Rattle.program.proofs.Bytes.{word_again, word_cut, word_dropped}
 use Rattle.program.proofs.Layouts.{Laid}
 use Rattle.program.proofs.Rows.{length_each}
 
@@ -33,11 +33,6 @@ after_variables p = each procedure_bytes p.procedures ++ trailer_bytes p
 
 abbrev pub after_nodes : Program → List ℕ
 after_nodes p = each variable_bytes p.variables ++ after_variables p
-
-word_dropped : (bs : List ℕ) (e i j : ℕ) → e + i ≡ j → word_at (drop e bs) i ≡ word_at bs j
-word_dropped bs e i j h =
-    let at : (k : ℕ) → get_or (drop e bs) (i + k) 0 ≡ get_or bs (j + k) 0 = λ k. get_or-drop e bs (i + k) 0 ∙ ap (λ m. get_or bs m 0) (omega arith) in
-    cc (get_or-drop e bs i 0, at 1, at 2, at 3)
 
 module _ (p : Program) where
   pub encoded_from_nodes : encoded p ≡ each node_bytes p.nodes ++ after_nodes p

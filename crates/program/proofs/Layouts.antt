@@ -8,7 +8,7 @@ use Rattle.program.specs.Layout.{is_closing, closes, in_order, in_number, laid, 
 use Rattle.program.specs.declared.layout.Layout.{Layout}
 use Rattle.program.specs.declared.refusal.Refusal.{Refusal}
 use Rattle.program.specs.declared.refusal.Refusal.TheVariants.{Closing, Places, Counts}
-use Rattle.program.proofs.Bytes.{byte_cut}
+use Rattle.program.proofs.Bytes.{byte_cut, word_dropped}
 
 -- the closing bytes stand, the places are where the records of the counts end, and these are all of the file
 pub record Laid (bs : List ℕ) (l : Layout) : Type 0 where
@@ -75,3 +75,13 @@ layout_from_laid bs l h =
     ∙ cond-true (in_order v p e) (counted (laid v p e)) (Err Places) d.0
     ∙ cond-true (in_number (laid v p e)) (Ok (laid v p e)) (Err Counts) (ap in_number d.2 ∙ d.1)
     ∙ ap Ok d.2
+
+-- the layout by the trailer, which is what stands after the records
+pub layout_by_trailer : (bs rs ts : List ℕ) → ts ≡ drop (length bs - 12) bs → length rs + 12 ≡ length bs → is_closing (drop (length bs - 4) bs) ≡ true → layout_of bs ≡ placed (word_at ts 0) (word_at ts 4) (length rs)
+layout_by_trailer bs rs ts t n k =
+    let e = length bs - 12 in
+    let l : length rs ≡ e = omega arith in
+    let p : closes bs ≡ true = and_from (leb 12 (length bs)) (is_closing (drop (length bs - 4) bs)) (le-leb 12 (length bs) (omega arith)) k in
+    let v : word_at ts 0 ≡ word_at bs e = rw t (word_dropped bs e 0 e (omega arith)) in
+    let q : word_at ts 4 ≡ word_at bs (e + 4) = rw t (word_dropped bs e 4 (e + 4) refl) in
+    cond-true (closes bs) (placed (word_at bs e) (word_at bs (e + 4)) e) (Err Closing) p ∙ rw (l, v, q) refl

@@ -1,7 +1,7 @@
 // The parts of a program file: node records, variable records, procedure records and the trailer.
-ghost use Rattle.std.specs.Prelude.{◌≡◌, ◌+◌, ◌≤◌, length, IfOk};
+ghost use Rattle.std.specs.Prelude.{◌≡◌, ◌-◌, ◌≤◌, length, drop, IfOk};
 ghost use Rattle.program.specs.Fields.{word_at};
-ghost use Rattle.program.specs.Layout.{is_closing, closes, in_order, in_number, layout_of, Covers};
+ghost use Rattle.program.specs.Layout.{is_closing, in_order, in_number, layout_of, Covers};
 
 use crate::refusal::Refusal;
 
@@ -13,6 +13,7 @@ pub struct Layout {
     pub procedures: usize,
 }
 
+// A match with the bytes themselves, before anything else of a file is read: a rule of the project.
 fn is_closing(last: &[u8]) -> bool
     ensures { result ≡ is_closing last.now }
 {
@@ -22,25 +23,24 @@ fn is_closing(last: &[u8]) -> bool
     }
 }
 
-// Whether a file has room for a trailer and ends in the closing bytes.
+// Whether the last four bytes of a file are the closing bytes.
 fn is_closed(file: &[u8]) -> bool
-    ensures { result ≡ closes file.now }
+    requires { 4 ≤ length file.now }
+    ensures { result ≡ is_closing (drop (length file.now - 4) file.now) }
 {
-    12 <= file.len() && is_closing(&file[file.len() - 4..])
+    is_closing(&file[file.len() - 4..])
 }
 
-// The number of four bytes, highest first, from a place on. They are read by their places: a pattern would have an arm that
-// is never reached.
-fn number_at(file: &[u8], place: usize) -> usize
-    requires { place + 4 ≤ length file.now }
-    ensures { result ≡ word_at file.now place }
+// The places of the variables and of the procedures, highest byte first.
+fn places(trailer: &[u8; 12]) -> (usize, usize)
+    ensures variables { result.0 ≡ word_at trailer.now 0 }
+    ensures procedures { result.1 ≡ word_at trailer.now 4 }
 {
-    u32::from_be_bytes([
-        file[place],
-        file[place + 1],
-        file[place + 2],
-        file[place + 3],
-    ]) as usize
+    let [v3, v2, v1, v0, p3, p2, p1, p0, ..] = *trailer;
+    (
+        u32::from_be_bytes([v3, v2, v1, v0]) as usize,
+        u32::from_be_bytes([p3, p2, p1, p0]) as usize,
+    )
 }
 
 // Whether the places rise up to the trailer and cut whole records.
@@ -69,19 +69,21 @@ impl Layout {
         ensures value { result ≡ layout_of file.now }
         ensures covers { IfOk result (Covers (length file.now)) }
     {
+        let Some((records, trailer)) = file.split_last_chunk::<12>() else {
+            return Err(Refusal::Closing);
+        };
         if !is_closed(file) {
             return Err(Refusal::Closing);
         }
-        let trailer = file.len() - 12;
-        let variables = number_at(file, trailer);
-        let procedures = number_at(file, trailer + 4);
-        if !is_in_order(variables, procedures, trailer) {
+        let (variables, procedures) = places(trailer);
+        let end = records.len();
+        if !is_in_order(variables, procedures, end) {
             return Err(Refusal::Places);
         }
         let layout = Layout {
             nodes: variables / 12,
             variables: (procedures - variables) / 8,
-            procedures: (trailer - procedures) / 12,
+            procedures: (end - procedures) / 12,
         };
         if !is_in_number(layout) {
             return Err(Refusal::Counts);

@@ -1,4 +1,5 @@
-// Why a file is refused: one variant for each row of the check, with the number of the record at fault.
+// Why a file is refused: one variant for each row of the check, with the number of the record at fault. An answer prints its
+// two numbers; nobody prints it by itself, so it has no Display.
 ghost use Rattle.std.specs.Prelude.{◌≡◌};
 ghost use Rattle.program.specs.Refusals.{row_number, place_number};
 

@@ -4,7 +4,7 @@ ghost use Rattle.words.specs.Numbers.{type_number, type_numbered, arithmetic_num
 
 use crate::types::{Arithmetic, Comparison, DataType};
 
-// A number that stands for no data type, or for no operator.
+// A number that stands for no data type, or for no operator. Nobody prints it, so it has no Display.
 #[derive(Clone, Copy, PartialEq, Eq, Debug)]
 pub struct UnknownNumber(pub u8);
 

@@ -1,4 +1,4 @@
-// A move is done, and a signal goes up.
+// A move is done, and a signal goes up. That a signal that goes on fits is said by each step, since an Option has no ghost field.
 ghost use Rattle.std.specs.Prelude.{◌≡◌, true, false, ◌&&◌, length, Some};
 ghost use Rattle.engine.specs.Shape.{is_argument, in_call, signal_fits, move_fits};
 ghost use Rattle.engine.specs.Standing.{entries};
