@@ -31,11 +31,12 @@ impl<L: Levels> Site<'_, L> {
         ensures { (t : ArgumentTest) → Computes (F.post fits) (argument_fits L.Levels.rules (view self.now.tables.now) t) → result ≡ arguments_fit L.Levels.rules (view self.now.tables.now) t called.parameters called.first_parameter first }
     {
         let mut next = first;
-        for i in 0..called.parameters {
+        let first_parameter = called.first_parameter as usize;
+        for parameter in first_parameter..first_parameter + called.parameters as usize {
             let Some((value, after)) = self.argument(next) else {
                 return false;
             };
-            if !fits(called.first_parameter as usize + i as usize, value) {
+            if !fits(parameter, value) {
                 return false;
             }
             next = after;
@@ -52,9 +53,8 @@ impl<L: Levels> Site<'_, L> {
         requires { F.IsAlwaysCallable fits }
         ensures { (t : ArgumentTest) → Computes (F.post fits) (argument_fits L.Levels.rules (view self.now.tables.now) t) → result ≡ call_fits L.Levels.rules (view self.now.tables.now) t (procedure_at (view self.now.tables.now) procedure) first }
     {
-        match self.tables.procedure(procedure) {
-            Some(called) => self.arguments_fit(called, first, fits),
-            None => false,
-        }
+        self.tables
+            .procedure(procedure)
+            .is_some_and(|called| self.arguments_fit(called, first, fits))
     }
 }

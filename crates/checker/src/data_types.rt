@@ -4,7 +4,7 @@ ghost use Rattle.typing.specs.Environment.{procedure_at, type_of};
 ghost use Rattle.typing.specs.Rows.{agree, is_bool, is_void, types_fit};
 ghost use Rattle.tables.specs.View.{view};
 
-use crate::operators::{arithmetic_takes, comparison_takes};
+use crate::operators::takes;
 use crate::site::Site;
 use levels::Levels;
 use program::records::Node;
@@ -49,12 +49,14 @@ impl<L: Levels> Site<'_, L> {
                 operator,
                 left,
                 right,
-            } => self.same_types(left, right) && arithmetic_takes(operator, tables.data_type(left)),
+            } => self.same_types(left, right)
+                && takes(usize::from(u8::from(operator)), tables.data_type(left)),
             Node::Comparison {
                 operator,
                 left,
                 right,
-            } => self.same_types(left, right) && comparison_takes(operator, tables.data_type(left)),
+            } => self.same_types(left, right)
+                && takes(5 + usize::from(u8::from(operator)), tables.data_type(left)),
             Node::And { left, right } | Node::Or { left, right } => self.is_bool(left)
                 && self.is_bool(right),
             Node::Choice {

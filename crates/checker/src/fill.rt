@@ -5,25 +5,25 @@ ghost use Rattle.tables.specs.View.{view, Empty};
 ghost use Rattle.checker.specs.Files.{variables_of, procedures_of, nodes_of};
 ghost use Rattle.checker.specs.Records.{checked};
 
+use crate::check::Check;
 use crate::names::check_names;
-use crate::nodes::check_nodes;
-use crate::procedures::check_procedures;
 use crate::records::Parts;
-use crate::variables::check_variables;
 use levels::Levels;
 use program::layout::Layout;
 use program::refusal::Refusal;
 use tables::tables::Tables;
 
-fn check_records<L: Levels>(levels: &L, tables: &mut Tables, parts: &Parts) -> Result<(), Refusal>
-    requires { Empty tables.old }
-    ensures value { result ≡ checked tt (records_fault L.Levels.rules parts.now.layout parts.now.file.now) }
-    ensures filled { OnOk result (view tables.new ≡ environment (variables_of parts.now) (procedures_of parts.now) (nodes_of L.Levels.rules parts.now)) }
-{
-    check_variables(levels, tables, parts)?;
-    check_procedures(levels, tables, parts)?;
-    check_nodes(levels, tables, parts)?;
-    check_names(tables)
+impl<L: Levels> Check<'_, '_, L> {
+    fn check_records(&self, tables: &mut Tables) -> Result<(), Refusal>
+        requires { Empty tables.old }
+        ensures value { result ≡ checked tt (records_fault L.Levels.rules self.now.parts.layout self.now.parts.file.now) }
+        ensures filled { OnOk result (view tables.new ≡ environment (variables_of self.now.parts) (procedures_of self.now.parts) (nodes_of L.Levels.rules self.now.parts)) }
+    {
+        self.check_variables(tables)?;
+        self.check_procedures(tables)?;
+        self.check_nodes(tables)?;
+        check_names(tables)
+    }
 }
 
 // The counts of the records of a file that no row refuses, which the tables then hold, or the first fault.
@@ -33,6 +33,7 @@ pub fn fill<L: Levels>(levels: &L, tables: &mut Tables, file: &[u8]) -> Result<L
 {
     tables.clear();
     let layout = Layout::read(file)?;
-    check_records(levels, tables, &Parts { file, layout })?;
+    let parts = Parts { file, layout };
+    Check { levels, parts }.check_records(tables)?;
     Ok(layout)
 }

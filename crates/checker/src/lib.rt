@@ -5,6 +5,7 @@
 mod arguments;
 mod bodies;
 mod calls;
+mod check;
 mod children;
 mod class;
 mod data_types;

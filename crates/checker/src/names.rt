@@ -55,7 +55,8 @@ fn mark_names(names: &mut [Naming], nodes: &[TypedNode])
     }
 }
 
-// Makes an entry for each node. Entry by entry, since `resize` may ask for memory.
+// Makes an entry for each node. Entry by entry: `resize` answers a Result, whose error cannot come here, and says nowhere that it asks for
+// no memory where there is room.
 fn name_none(names: &mut Vec<Naming>, nodes: &[TypedNode])
     requires room { (length nodes.now ≤ 1024) × (1024 ≤ vec_capacity names.old) }
     requires empty { names.old.items ≡ [] }

@@ -9,7 +9,7 @@ ghost use Rattle.checker.specs.Files.{variables_of, procedures_of, nodes_of, fau
 ghost use Rattle.checker.specs.Records.{checked, Holds};
 
 use crate::bodies::next_procedure;
-use crate::records::Parts;
+use crate::check::Check;
 use crate::site::Site;
 use levels::Levels;
 use program::decode::decode_node;
@@ -32,27 +32,25 @@ impl<L: Levels> Site<'_, L> {
     }
 }
 
-pub(crate) fn check_nodes<L: Levels>(
-    levels: &L,
-    tables: &mut Tables,
-    parts: &Parts,
-) -> Result<(), Refusal>
-    requires { Holds tables.old (variables_of parts.now) (procedures_of parts.now) [] }
-    ensures value { result ≡ checked tt (first (fault_of_node L.Levels.rules parts.now) parts.now.layout.nodes) }
-    ensures filled { OnOk result (Holds tables.new (variables_of parts.now) (procedures_of parts.now) (nodes_of L.Levels.rules parts.now)) }
-{
-    let mut procedure = 0;
-    for (place, fields) in parts.nodes().enumerate() {
-        let place = place as u16;
-        let site = Site {
-            levels,
-            tables,
-            procedure,
-            place,
-        };
-        let node = site.check_node(fields)?;
-        tables.nodes.push_reserved(node);
-        procedure = next_procedure(tables, procedure, place);
+impl<L: Levels> Check<'_, '_, L> {
+    pub(crate) fn check_nodes(&self, tables: &mut Tables) -> Result<(), Refusal>
+        requires { Holds tables.old (variables_of self.now.parts) (procedures_of self.now.parts) [] }
+        ensures value { result ≡ checked tt (first (fault_of_node L.Levels.rules self.now.parts) self.now.parts.layout.nodes) }
+        ensures filled { OnOk result (Holds tables.new (variables_of self.now.parts) (procedures_of self.now.parts) (nodes_of L.Levels.rules self.now.parts)) }
+    {
+        let mut procedure = 0;
+        for (place, fields) in self.parts.nodes().enumerate() {
+            let place = place as u16;
+            let site = Site {
+                levels: self.levels,
+                tables,
+                procedure,
+                place,
+            };
+            let node = site.check_node(fields)?;
+            tables.nodes.push_reserved(node);
+            procedure = next_procedure(tables, procedure, place);
+        }
+        Ok(())
     }
-    Ok(())
 }

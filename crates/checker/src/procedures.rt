@@ -8,6 +8,7 @@ ghost use Rattle.typing.specs.First.{or_else, unless, first};
 ghost use Rattle.checker.specs.Files.{variables_of, procedures_of, fault_of_procedure};
 ghost use Rattle.checker.specs.Records.{checked, Holds};
 
+use crate::check::Check;
 use crate::records::Parts;
 use crate::rows::require;
 use levels::Levels;
@@ -79,45 +80,42 @@ fn main_fits(procedures: usize, place: u16, procedure: Procedure) -> bool
     place as usize + 1 != procedures || (procedure.result.is_none() && procedure.parameters == 0)
 }
 
-// Checks a record after those that the tables hold.
-fn check_procedure<L: Levels>(
-    levels: &L,
-    tables: &Tables,
-    parts: &Parts,
-    place: u16,
-    fields: ProcedureFields,
-) -> Result<Procedure, Refusal>
-    ensures { result ≡ checked (known no_procedure (procedure_decoded fields)) (or_else (unless (result_fits L.Levels.rules (procedure_decoded fields)) (BadResult place)) (procedure_rows parts.now.file.now parts.now.layout.nodes parts.now.layout.procedures tables.now.variables.items tables.now.procedures.items place (known no_procedure (procedure_decoded fields)))) }
-{
-    let procedure = decode_procedure(fields).ok_or(Refusal::Result(place))?;
-    require(result_fits(levels, procedure), Refusal::Result(place))?;
-    require(
-        parameters_fit(&tables.variables, place, procedure),
-        Refusal::Parameters(place),
-    )?;
-    require(
-        body_stands(parts, &tables.procedures, place, procedure.body),
-        Refusal::Body(place),
-    )?;
-    require(
-        main_fits(parts.layout.procedures, place, procedure),
-        Refusal::Main(place),
-    )?;
-    Ok(procedure)
-}
-
-pub(crate) fn check_procedures<L: Levels>(
-    levels: &L,
-    tables: &mut Tables,
-    parts: &Parts,
-) -> Result<(), Refusal>
-    requires { Holds tables.old (variables_of parts.now) [] [] }
-    ensures value { result ≡ checked tt (first (fault_of_procedure L.Levels.rules parts.now) parts.now.layout.procedures) }
-    ensures filled { OnOk result (Holds tables.new (variables_of parts.now) (procedures_of parts.now) []) }
-{
-    for (place, fields) in parts.procedures().enumerate() {
-        let procedure = check_procedure(levels, tables, parts, place as u16, fields)?;
-        tables.procedures.push_reserved(procedure);
+impl<L: Levels> Check<'_, '_, L> {
+    // Checks a record after those that the tables hold.
+    fn check_procedure(
+        &self,
+        tables: &Tables,
+        place: u16,
+        fields: ProcedureFields,
+    ) -> Result<Procedure, Refusal>
+        ensures { result ≡ checked (known no_procedure (procedure_decoded fields)) (or_else (unless (result_fits L.Levels.rules (procedure_decoded fields)) (BadResult place)) (procedure_rows self.now.parts.file.now self.now.parts.layout.nodes self.now.parts.layout.procedures tables.now.variables.items tables.now.procedures.items place (known no_procedure (procedure_decoded fields)))) }
+    {
+        let procedure = decode_procedure(fields).ok_or(Refusal::Result(place))?;
+        require(result_fits(self.levels, procedure), Refusal::Result(place))?;
+        require(
+            parameters_fit(&tables.variables, place, procedure),
+            Refusal::Parameters(place),
+        )?;
+        require(
+            body_stands(&self.parts, &tables.procedures, place, procedure.body),
+            Refusal::Body(place),
+        )?;
+        require(
+            main_fits(self.parts.layout.procedures, place, procedure),
+            Refusal::Main(place),
+        )?;
+        Ok(procedure)
     }
-    Ok(())
+
+    pub(crate) fn check_procedures(&self, tables: &mut Tables) -> Result<(), Refusal>
+        requires { Holds tables.old (variables_of self.now.parts) [] [] }
+        ensures value { result ≡ checked tt (first (fault_of_procedure L.Levels.rules self.now.parts) self.now.parts.layout.procedures) }
+        ensures filled { OnOk result (Holds tables.new (variables_of self.now.parts) (procedures_of self.now.parts) []) }
+    {
+        for (place, fields) in self.parts.procedures().enumerate() {
+            let procedure = self.check_procedure(tables, place as u16, fields)?;
+            tables.procedures.push_reserved(procedure);
+        }
+        Ok(())
+    }
 }

@@ -8,13 +8,27 @@ use program::fields::{NodeFields, ProcedureFields, Record, VariableFields};
 use program::layout::Layout;
 use std::marker::PhantomData;
 
-// So many records of a kind, one after another.
+// So many records of a kind, one after another. The count stands beside the bytes, since these go on to the end of the file.
 #[derive(Drop)]
 pub(crate) struct Records<'a, R: Record> {
     left: &'a [u8],
     count: usize,
     of: PhantomData<R>,
     ghost whole: { R.size * count ≤ length left.now },
+}
+
+impl<'a, R: Record> Records<'a, R> {
+    fn of(left: &'a [u8], count: usize) -> Records<'a, R>
+        requires { R.size * count ≤ length left.now }
+        ensures left { result.left.now ≡ left.now }
+        ensures count { result.count ≡ count }
+    {
+        Records {
+            left,
+            count,
+            of: PhantomData,
+        }
+    }
 }
 
 impl<R: Record> Iterator for Records<'_, R> {
@@ -48,32 +62,23 @@ impl<'a> Parts<'a> {
         ensures left { result.left.now ≡ self.now.file.now }
         ensures count { result.count ≡ self.now.layout.nodes }
     {
-        Records {
-            left: self.file,
-            count: self.layout.nodes,
-            of: PhantomData,
-        }
+        Records::of(self.file, self.layout.nodes)
     }
 
     pub(crate) fn variables(&self) -> Records<'a, VariableFields>
         ensures left { result.left.now ≡ variable_part self.now.layout self.now.file.now }
         ensures count { result.count ≡ self.now.layout.variables }
     {
-        Records {
-            left: &self.file[12 * self.layout.nodes..],
-            count: self.layout.variables,
-            of: PhantomData,
-        }
+        Records::of(&self.file[12 * self.layout.nodes..], self.layout.variables)
     }
 
     pub(crate) fn procedures(&self) -> Records<'a, ProcedureFields>
         ensures left { result.left.now ≡ procedure_part self.now.layout self.now.file.now }
         ensures count { result.count ≡ self.now.layout.procedures }
     {
-        Records {
-            left: &self.file[12 * self.layout.nodes + 8 * self.layout.variables..],
-            count: self.layout.procedures,
-            of: PhantomData,
-        }
+        Records::of(
+            &self.file[12 * self.layout.nodes + 8 * self.layout.variables..],
+            self.layout.procedures,
+        )
     }
 }

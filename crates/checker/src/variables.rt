@@ -9,7 +9,7 @@ ghost use Rattle.tables.specs.View.{Empty};
 ghost use Rattle.checker.specs.Files.{variables_of, fault_of_variable};
 ghost use Rattle.checker.specs.Records.{checked, Holds};
 
-use crate::records::Parts;
+use crate::check::Check;
 use levels::Levels;
 use program::decode::decode_variable;
 use program::fields::VariableFields;
@@ -41,19 +41,17 @@ fn check_variable<L: Levels>(
         .ok_or(Refusal::Variable(place))
 }
 
-pub(crate) fn check_variables<L: Levels>(
-    levels: &L,
-    tables: &mut Tables,
-    parts: &Parts,
-) -> Result<(), Refusal>
-    requires { Empty tables.old }
-    ensures value { result ≡ checked tt (first (fault_of_variable L.Levels.rules parts.now) parts.now.layout.variables) }
-    ensures filled { OnOk result (Holds tables.new (variables_of parts.now) [] []) }
-{
-    let procedures = parts.layout.procedures;
-    for (place, fields) in parts.variables().enumerate() {
-        let variable = check_variable(levels, procedures, place as u16, fields)?;
-        tables.variables.push_reserved(variable);
+impl<L: Levels> Check<'_, '_, L> {
+    pub(crate) fn check_variables(&self, tables: &mut Tables) -> Result<(), Refusal>
+        requires { Empty tables.old }
+        ensures value { result ≡ checked tt (first (fault_of_variable L.Levels.rules self.now.parts) self.now.parts.layout.variables) }
+        ensures filled { OnOk result (Holds tables.new (variables_of self.now.parts) [] []) }
+    {
+        let procedures = self.parts.layout.procedures;
+        for (place, fields) in self.parts.variables().enumerate() {
+            let variable = check_variable(self.levels, procedures, place as u16, fields)?;
+            tables.variables.push_reserved(variable);
+        }
+        Ok(())
     }
-    Ok(())
 }

@@ -1,7 +1,5 @@
 -- One child further, if there is one.
-use Rattle.std.proofs.Common.{List, get_or, ap, sym, ◌∙◌, take_all, fold, arith, None}
-use Rattle.std.proofs.lemmas.List.Sums.{fold_more}
-use Rattle.tables.specs.declared.tables.Naming.{Naming}
+use Rattle.std.proofs.Common.{ap, ◌∙◌, take_all, fold, arith}
 use Rattle.checker.proofs.Marks.{marked_if, present_marked}
 use Rattle.checker.specs.Names.{marked_all}
 use Rattle.checker.proofs.names.mark_children.Goals as goal

@@ -5,8 +5,8 @@ use Rattle.tables.specs.View.{view}
 use Rattle.checker.specs.Arguments.{Computes}
 use Rattle.checker.proofs.site.Site.arguments_fit.Given as goal
 
-abbrev pub invariant-loop-i : goal.invariant-loop-i
-invariant-loop-i g l =
+abbrev pub invariant-loop-parameter : goal.invariant-loop-parameter
+invariant-loop-parameter g l =
     (t : ArgumentTest) → Computes (goal.F-post g l.fits) (argument_fits g.L.Levels.rules (view l.self.tables.now) t)
-    → arguments_fit g.L.Levels.rules (view l.self.tables.now) t l.called.parameters l.called.first_parameter l.initial.next
-    ≡ arguments_fit g.L.Levels.rules (view l.self.tables.now) t (l.called.parameters - l.i) (l.called.first_parameter + l.i) l.next
+    → arguments_fit g.L.Levels.rules (view l.self.tables.now) t l.fn.called.parameters l.fn.called.first_parameter l.initial.next
+    ≡ arguments_fit g.L.Levels.rules (view l.self.tables.now) t (l.first_parameter + l.fn.called.parameters - l.parameter) l.parameter l.next

@@ -13,13 +13,13 @@ use Rattle.checker.proofs.Answered.{stops, goes_on, grows}
 use Rattle.checker.proofs.Running.{procedure_none, procedure_more, procedure_below}
 use Rattle.checker.proofs.Taken.{record_taken, node_fault_taken, typed_node_taken}
 use Rattle.checker.proofs.Views.{viewed}
-use Rattle.checker.proofs.nodes.check_nodes.Goals as goal
+use Rattle.checker.proofs.check.Check.check_nodes.Goals as goal
 
 pub loop-place-init : goal.loop-place-init
 loop-place-init g c =
     let none : c.into_iter-place-iterator.result.count ≡ 0 = cc in
-    let left : c.into_iter-place-iterator.result.iter.left.now ≡ c.args.parts.now.file.now = cc in
-    let all : c.into_iter-place-iterator.result.iter.count ≡ c.args.parts.now.layout.nodes = cc in
+    let left : c.into_iter-place-iterator.result.iter.left.now ≡ c.args.self.now.parts.file.now = cc in
+    let all : c.into_iter-place-iterator.result.iter.count ≡ c.args.self.now.parts.layout.nodes = cc in
     rw (none, left, all) (
       refl,
       add-zero _,
@@ -31,26 +31,26 @@ loop-place-init g c =
 pub push_reserved-requires : goal.push_reserved-requires
 push_reserved-requires g c =
     let r = g.L.Levels.rules in
-    let bs = c.args.parts.now.file.now in
-    let vs = file_variables c.args.parts.now.layout bs in
-    let ds = file_procedures c.args.parts.now.layout bs in
+    let bs = c.args.self.now.parts.file.now in
+    let vs = file_variables c.args.self.now.parts.layout bs in
+    let ds = file_procedures c.args.self.now.parts.layout bs in
     let tabled = length_table (λ ns k. typed_node r (environment vs ds ns) (procedure_of ds k) (known no_node (node_record bs k))) c.loop-place.place-iterator.count in
     omega
-    (arith, c.loop-place.tables.nodes.ok.0, ap length c.loop-place.invariant.3.nodes, c.loop-place.tables.nodes_room, c.in-Some.ensures.steps, c.loop-place.invariant.1, c.args.parts.now.covers.few_nodes)
+    (arith, c.loop-place.tables.nodes.ok.0, ap length c.loop-place.invariant.3.nodes, c.loop-place.tables.nodes_room, c.in-Some.ensures.steps, c.loop-place.invariant.1, c.args.self.now.parts.covers.few_nodes)
 
 pub next_procedure-procedure-requires : goal.next_procedure-procedure-requires
 next_procedure-procedure-requires g c =
-    let ds = file_procedures c.args.parts.now.layout c.args.parts.now.file.now in
+    let ds = file_procedures c.args.self.now.parts.layout c.args.self.now.parts.file.now in
     omega
-    (arith, c.loop-place.invariant.4, procedure_below ds c.loop-place.place-iterator.count, c.in-Some.ensures.steps, c.loop-place.invariant.1, c.args.parts.now.covers.few_nodes)
+    (arith, c.loop-place.invariant.4, procedure_below ds c.loop-place.place-iterator.count, c.in-Some.ensures.steps, c.loop-place.invariant.1, c.args.self.now.parts.covers.few_nodes)
 
 pub returns-in_err-node : goal.returns-in_err-node
 returns-in_err-node g c =
     let p = err_from_is_err_and c.from_residual.result c.from_residual.ensures.1 in
     let step = c.in-Some.ensures.steps in
     let r = g.L.Levels.rules in
-    let bs = c.args.parts.now.file.now in
-    let l = c.args.parts.now.layout in
+    let bs = c.args.self.now.parts.file.now in
+    let l = c.args.self.now.parts.layout in
     let vs = file_variables l bs in
     let ds = file_procedures l bs in
     let i = c.loop-place.place-iterator.count in
@@ -67,8 +67,8 @@ pub loop-place-preserved : goal.loop-place-preserved
 loop-place-preserved g c =
     let step = c.in-Some.ensures.steps in
     let r = g.L.Levels.rules in
-    let bs = c.args.parts.now.file.now in
-    let l = c.args.parts.now.layout in
+    let bs = c.args.self.now.parts.file.now in
+    let l = c.args.self.now.parts.layout in
     let vs = file_variables l bs in
     let ds = file_procedures l bs in
     let i = c.loop-place.place-iterator.count in

@@ -4,12 +4,12 @@ use Rattle.typing.specs.Environment.{procedure_of}
 use Rattle.typing.specs.Faults.{typed_nodes, node_fault, file_variables, file_procedures}
 use Rattle.typing.specs.First.{first}
 use Rattle.checker.specs.Records.{Holds}
-use Rattle.checker.proofs.nodes.check_nodes.Given as goal
+use Rattle.checker.proofs.check.Check.check_nodes.Given as goal
 
 abbrev pub invariant-loop-place : goal.invariant-loop-place
 invariant-loop-place g l =
-    let bs = l.parts.file.now in
-    let layout = l.parts.layout in
+    let bs = l.self.parts.file.now in
+    let layout = l.self.parts.layout in
     let vs = file_variables layout bs in
     let ds = file_procedures layout bs in
     let records = l.place-iterator.iter in

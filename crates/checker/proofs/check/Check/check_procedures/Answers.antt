@@ -8,13 +8,13 @@ use Rattle.typing.specs.Faults.{known, file_variables, procedure_part, procedure
 use Rattle.typing.proofs.Rising.{first_none, table_none, length_table, drop_record}
 use Rattle.checker.proofs.Answered.{stops, goes_on, grows}
 use Rattle.checker.proofs.Taken.{record_taken, procedure_fault_taken}
-use Rattle.checker.proofs.procedures.check_procedures.Goals as goal
+use Rattle.checker.proofs.check.Check.check_procedures.Goals as goal
 
 pub loop-place-init : goal.loop-place-init
 loop-place-init g c =
     let none : c.into_iter-place-iterator.result.count ≡ 0 = cc in
-    let left : c.into_iter-place-iterator.result.iter.left.now ≡ procedure_part c.args.parts.now.layout c.args.parts.now.file.now = cc in
-    let all : c.into_iter-place-iterator.result.iter.count ≡ c.args.parts.now.layout.procedures = cc in
+    let left : c.into_iter-place-iterator.result.iter.left.now ≡ procedure_part c.args.self.now.parts.layout c.args.self.now.parts.file.now = cc in
+    let all : c.into_iter-place-iterator.result.iter.count ≡ c.args.self.now.parts.layout.procedures = cc in
     rw (none, left, all) (
       refl,
       add-zero _,
@@ -24,18 +24,18 @@ loop-place-init g c =
 
 pub push_reserved-requires : goal.push_reserved-requires
 push_reserved-requires g c =
-    let part = procedure_part c.args.parts.now.layout c.args.parts.now.file.now in
+    let part = procedure_part c.args.self.now.parts.layout c.args.self.now.parts.file.now in
     let tabled = length_table (λ _ i. known no_procedure (procedure_record part i)) c.loop-place.place-iterator.count in
     omega
-    (arith, c.loop-place.tables.procedures.ok.0, ap length c.loop-place.invariant.3.procedures, c.loop-place.tables.procedures_room, c.in-Some.ensures.steps, c.loop-place.invariant.1, c.args.parts.now.covers.few_procedures)
+    (arith, c.loop-place.tables.procedures.ok.0, ap length c.loop-place.invariant.3.procedures, c.loop-place.tables.procedures_room, c.in-Some.ensures.steps, c.loop-place.invariant.1, c.args.self.now.parts.covers.few_procedures)
 
 pub returns-in_err-procedure : goal.returns-in_err-procedure
 returns-in_err-procedure g c =
     let p = err_from_is_err_and c.from_residual.result c.from_residual.ensures.1 in
     let step = c.in-Some.ensures.steps in
     let r = g.L.Levels.rules in
-    let bs = c.args.parts.now.file.now in
-    let l = c.args.parts.now.layout in
+    let bs = c.args.self.now.parts.file.now in
+    let l = c.args.self.now.parts.layout in
     let part = procedure_part l bs in
     let i = c.loop-place.place-iterator.count in
     let lt : i < l.procedures = omega (arith, step, c.loop-place.invariant.1) in
@@ -54,8 +54,8 @@ pub loop-place-preserved : goal.loop-place-preserved
 loop-place-preserved g c =
     let step = c.in-Some.ensures.steps in
     let r = g.L.Levels.rules in
-    let bs = c.args.parts.now.file.now in
-    let l = c.args.parts.now.layout in
+    let bs = c.args.self.now.parts.file.now in
+    let l = c.args.self.now.parts.layout in
     let part = procedure_part l bs in
     let i = c.loop-place.place-iterator.count in
     let it = record_taken procedure_fields_of procedure_decoded 12 part _ i _ step.0.1 c.loop-place.invariant.0 in
