@@ -14,8 +14,10 @@ fn file_command<'a>(name: &[u8], arguments: Fields<'a>) -> Result<Option<FileCom
     ensures { shown_command result ≡ file_command_by (source_named name.now) (fields arguments.entry.rest.now) }
 {
     match name {
-        b"check" => Ok(Some(FileCommand::Digits(one_argument(arguments, 1)?))),
-        b"check-file" => Ok(Some(FileCommand::Path(one_argument(arguments, 1)?))),
+        b"check" => one_argument(arguments, 1)
+            .map(FileCommand::Digits)
+            .map(Some),
+        b"check-file" => one_argument(arguments, 1).map(FileCommand::Path).map(Some),
         _ => Ok(None),
     }
 }

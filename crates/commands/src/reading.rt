@@ -59,18 +59,18 @@ fn command(name: &[u8], arguments: Fields) -> Result<Command, Problem>
     match name {
         b"levels" => level_kind(arguments).map(Command::Levels),
         b"holding" => holding_kind(arguments).map(Command::Holding),
-        b"flows" => {
-            let (from, into) = two_numbers(arguments, word_argument)?;
-            Ok(Command::Flows { from, into })
-        }
-        b"joint" => {
-            let (one, other) = two_numbers(arguments, word_argument)?;
-            Ok(Command::Joint { one, other })
-        }
-        b"amend" => {
-            let (weight, correction) = two_numbers(arguments, int_argument)?;
-            Ok(Command::Amend { weight, correction })
-        }
+        b"flows" => two_numbers(arguments, word_argument).map(|(from, into)| Command::Flows {
+            from,
+            into,
+        }),
+        b"joint" => two_numbers(arguments, word_argument).map(|(one, other)| Command::Joint {
+            one,
+            other,
+        }),
+        b"amend" => two_numbers(arguments, int_argument).map(|(weight, correction)| Command::Amend {
+            weight,
+            correction,
+        }),
         _ => Err(Problem::UnknownCommand),
     }
 }
