@@ -21,14 +21,16 @@ pub fn int_argument(number: u8, argument: &[u8]) -> Result<u32, Problem>
     read_int(argument).ok_or(Problem::NoInt(number))
 }
 
-// The next of the arguments of a command that takes `wanted` in all.
+// The next of the arguments of a command that takes `wanted` in all. No struct holds both: each caller says the count once, and
+// `holding` counts anew when it has read its kind.
 pub fn next_argument<'a>(arguments: &mut Fields<'a>, wanted: u8) -> Result<&'a [u8], Problem>
     ensures { Taken wanted (fields arguments.old.rest.now) result (fields arguments.new.rest.now) }
 {
     arguments.next().ok_or(Problem::ArgumentCount(wanted))
 }
 
-// What is left of the arguments, where it is none, or just one.
+// What is left of the arguments, where it is none, or just one. One function with the count as a const parameter gets no proof:
+// the borrow checker covers no `Result` of an array of references.
 pub fn no_argument(mut arguments: Fields, wanted: u8) -> Result<(), Problem>
     ensures { Gave wanted 0 (λ _. []) (fields arguments.entry.rest.now) result }
 {

@@ -1,6 +1,6 @@
 // The fields of a line: what blanks part.
-ghost use Rattle.std.specs.Prelude.{◌≡◌, length};
-ghost use Rattle.commands.specs.Pieces.{fields, Gives};
+ghost use Rattle.std.specs.Prelude.{◌≡◌, [], ◌∷◌, length, MatchOption};
+ghost use Rattle.commands.specs.Pieces.{uncommented, fields, Gives};
 ghost use Rattle.std.specs.Iterator.{at_most};
 
 use crate::cutting::{Mark, cut};
@@ -8,14 +8,6 @@ use crate::cutting::{Mark, cut};
 #[derive(Drop)]
 pub struct Fields<'a> {
     rest: &'a [u8],
-}
-
-impl<'a> Fields<'a> {
-    pub fn of(line: &'a [u8]) -> Fields<'a>
-        ensures { result.rest.now ≡ line.now }
-    {
-        Fields { rest: line }
-    }
 }
 
 impl<'a> Iterator for Fields<'a> {
@@ -35,4 +27,14 @@ impl<'a> Iterator for Fields<'a> {
         }
         None
     }
+}
+
+// The name of a line's command and its arguments: the first field before the comment, and the fields after it.
+pub fn name_and_arguments(line: &[u8]) -> Option<(&[u8], Fields<'_>)>
+    ensures { MatchOption result (fields (uncommented line.now) ≡ []) (λ p. fields (uncommented line.now) ≡ p.0.now ∷ fields p.1.rest.now) }
+{
+    let (text, _) = cut(line, Mark::Hash);
+    let mut fields = Fields { rest: text };
+    let name = fields.next()?;
+    Some((name, fields))
 }

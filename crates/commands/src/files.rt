@@ -5,8 +5,7 @@ ghost use Rattle.commands.specs.Pieces.{fields};
 ghost use Rattle.commands.specs.Files.{source_named, file_command_by, file_command_of, shown_command, digit_in, byte_of, bytes_of};
 
 use crate::arguments::one_argument;
-use crate::cutting::{Mark, cut};
-use crate::fields::Fields;
+use crate::fields::{Fields, name_and_arguments};
 use crate::types::{FileCommand, Problem};
 use std::alloc::{AllocError, Global};
 
@@ -15,8 +14,10 @@ fn file_command<'a>(name: &[u8], arguments: Fields<'a>) -> Result<Option<FileCom
     ensures { shown_command result ≡ file_command_by (source_named name.now) (fields arguments.entry.rest.now) }
 {
     match name {
-        b"check" => Ok(Some(FileCommand::Digits(one_argument(arguments, 1)?))),
-        b"check-file" => Ok(Some(FileCommand::Path(one_argument(arguments, 1)?))),
+        b"check" => one_argument(arguments, 1)
+            .map(FileCommand::Digits)
+            .map(Some),
+        b"check-file" => one_argument(arguments, 1).map(FileCommand::Path).map(Some),
         _ => Ok(None),
     }
 }
@@ -25,11 +26,9 @@ fn file_command<'a>(name: &[u8], arguments: Fields<'a>) -> Result<Option<FileCom
 pub fn read_file_command(line: &[u8]) -> Result<Option<FileCommand<'_>>, Problem>
     ensures { shown_command result ≡ file_command_of line.now }
 {
-    let (text, _) = cut(line, Mark::Hash);
-    let mut fields = Fields::of(text);
-    match fields.next() {
+    match name_and_arguments(line) {
         None => Ok(None),
-        Some(name) => file_command(name, fields),
+        Some((name, arguments)) => file_command(name, arguments),
     }
 }
 

@@ -6,8 +6,7 @@ ghost use Rattle.commands.specs.Pieces.{fields};
 use crate::arguments::{
     int_argument, next_argument, no_argument, one_argument, two_numbers, word_argument,
 };
-use crate::cutting::{Mark, cut};
-use crate::fields::Fields;
+use crate::fields::{Fields, name_and_arguments};
 use crate::types::{Command, HoldingKind, LevelKind, Problem};
 
 impl TryFrom<&[u8]> for LevelKind {
@@ -60,18 +59,18 @@ fn command(name: &[u8], arguments: Fields) -> Result<Command, Problem>
     match name {
         b"levels" => level_kind(arguments).map(Command::Levels),
         b"holding" => holding_kind(arguments).map(Command::Holding),
-        b"flows" => {
-            let (from, into) = two_numbers(arguments, word_argument)?;
-            Ok(Command::Flows { from, into })
-        }
-        b"joint" => {
-            let (one, other) = two_numbers(arguments, word_argument)?;
-            Ok(Command::Joint { one, other })
-        }
-        b"amend" => {
-            let (weight, correction) = two_numbers(arguments, int_argument)?;
-            Ok(Command::Amend { weight, correction })
-        }
+        b"flows" => two_numbers(arguments, word_argument).map(|(from, into)| Command::Flows {
+            from,
+            into,
+        }),
+        b"joint" => two_numbers(arguments, word_argument).map(|(one, other)| Command::Joint {
+            one,
+            other,
+        }),
+        b"amend" => two_numbers(arguments, int_argument).map(|(weight, correction)| Command::Amend {
+            weight,
+            correction,
+        }),
         _ => Err(Problem::UnknownCommand),
     }
 }
@@ -80,10 +79,8 @@ fn command(name: &[u8], arguments: Fields) -> Result<Command, Problem>
 pub fn read(line: &[u8]) -> Result<Option<Command>, Problem>
     ensures { result ≡ command_of line.now }
 {
-    let (text, _) = cut(line, Mark::Hash);
-    let mut fields = Fields::of(text);
-    match fields.next() {
+    match name_and_arguments(line) {
         None => Ok(None),
-        Some(name) => command(name, fields).map(Some),
+        Some((name, arguments)) => command(name, arguments).map(Some),
     }
 }

@@ -58,6 +58,7 @@ impl Desk {
             }
             Command::Flows { from, into } => Answer::Flows(flows(self.levels, from, into)),
             Command::Joint { one, other } => Answer::Joint(joint(self.levels, one, other)),
+            // A `match`, since each holding is made in its own way, and a function that hands out either would need a `dyn`.
             Command::Amend { weight, correction } => match self.holding {
                 HoldingKind::Open => amend_in(OpenHolding::new(), weight, correction),
                 HoldingKind::Split(mask) => amend_in(SplitHolding::new(mask), weight, correction),

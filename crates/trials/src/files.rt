@@ -14,6 +14,7 @@ const FILE: [u8; 100] = [
 ];
 
 // The row and the place where the lowest bit of the byte at each position is turned, or none where the file is still accepted.
+// Not in pairs with the bytes: a verdict takes these as one slice.
 const TURNED: [Option<(u8, u16)>; 100] = [
     Some((11, 0)),
     Some((10, 0)),

@@ -23,14 +23,6 @@ fn try_two<F: Fn(u32, u32) -> u32>(rt: &impl Abort, operator: F, table: &Table)
     }
 }
 
-fn try_arithmetic(rt: &impl Abort, operator: Arithmetic, data_type: DataType, table: &Table) {
-    try_two(rt, |a, b| operator.apply_held(data_type, a, b), table);
-}
-
-fn try_comparison(rt: &impl Abort, operator: Comparison, data_type: DataType, table: &Table) {
-    try_two(rt, |a, b| operator.apply(data_type, a, b), table);
-}
-
 #[test]
 fn minus_and_not(rt: HostRuntime) {
     try_one(&rt, operators::minus, &edges::OPPOSITES);
@@ -46,39 +38,31 @@ fn and_and_or(rt: HostRuntime) {
 #[test]
 fn sums_differences_and_products(rt: HostRuntime) {
     for data_type in DATA_TYPES {
-        try_arithmetic(&rt, Arithmetic::Add, data_type, &edges::SUMS);
-        try_arithmetic(&rt, Arithmetic::Subtract, data_type, &edges::DIFFERENCES);
-        try_arithmetic(&rt, Arithmetic::Multiply, data_type, &edges::PRODUCTS);
+        for (operator, table) in [
+            (Arithmetic::Add, &edges::SUMS),
+            (Arithmetic::Subtract, &edges::DIFFERENCES),
+            (Arithmetic::Multiply, &edges::PRODUCTS),
+        ] {
+            try_two(&rt, |a, b| operator.apply_held(data_type, a, b), table);
+        }
     }
 }
 
 #[test]
 fn quotients_and_remainders(rt: HostRuntime) {
-    try_arithmetic(
-        &rt,
-        Arithmetic::Divide,
-        DataType::Int,
-        &edges::INT_QUOTIENTS,
-    );
-    try_arithmetic(
-        &rt,
-        Arithmetic::Remainder,
-        DataType::Int,
-        &edges::INT_REMAINDERS,
-    );
+    for (operator, table) in [
+        (Arithmetic::Divide, &edges::INT_QUOTIENTS),
+        (Arithmetic::Remainder, &edges::INT_REMAINDERS),
+    ] {
+        try_two(&rt, |a, b| operator.apply_held(DataType::Int, a, b), table);
+    }
     for data_type in [DataType::Bool, DataType::Unsigned] {
-        try_arithmetic(
-            &rt,
-            Arithmetic::Divide,
-            data_type,
-            &edges::UNSIGNED_QUOTIENTS,
-        );
-        try_arithmetic(
-            &rt,
-            Arithmetic::Remainder,
-            data_type,
-            &edges::UNSIGNED_REMAINDERS,
-        );
+        for (operator, table) in [
+            (Arithmetic::Divide, &edges::UNSIGNED_QUOTIENTS),
+            (Arithmetic::Remainder, &edges::UNSIGNED_REMAINDERS),
+        ] {
+            try_two(&rt, |a, b| operator.apply_held(data_type, a, b), table);
+        }
     }
 }
 
@@ -95,47 +79,33 @@ fn none_by_zero(rt: HostRuntime) {
 
 #[test]
 fn comparisons_of_ints(rt: HostRuntime) {
-    try_comparison(&rt, Comparison::Equal, DataType::Int, &edges::EQUAL);
-    try_comparison(&rt, Comparison::NotEqual, DataType::Int, &edges::NOT_EQUAL);
-    try_comparison(&rt, Comparison::Less, DataType::Int, &edges::INT_LESS);
-    try_comparison(
-        &rt,
-        Comparison::LessOrEqual,
-        DataType::Int,
-        &edges::INT_LESS_OR_EQUAL,
-    );
-    try_comparison(&rt, Comparison::Greater, DataType::Int, &edges::INT_GREATER);
-    try_comparison(
-        &rt,
-        Comparison::GreaterOrEqual,
-        DataType::Int,
-        &edges::INT_GREATER_OR_EQUAL,
-    );
+    for (operator, table) in [
+        (Comparison::Equal, &edges::EQUAL),
+        (Comparison::NotEqual, &edges::NOT_EQUAL),
+        (Comparison::Less, &edges::INT_LESS),
+        (Comparison::LessOrEqual, &edges::INT_LESS_OR_EQUAL),
+        (Comparison::Greater, &edges::INT_GREATER),
+        (Comparison::GreaterOrEqual, &edges::INT_GREATER_OR_EQUAL),
+    ] {
+        try_two(&rt, |a, b| operator.apply(DataType::Int, a, b), table);
+    }
 }
 
 #[test]
 fn comparisons_of_words(rt: HostRuntime) {
     for data_type in [DataType::Bool, DataType::Unsigned] {
-        try_comparison(&rt, Comparison::Equal, data_type, &edges::EQUAL);
-        try_comparison(&rt, Comparison::NotEqual, data_type, &edges::NOT_EQUAL);
-        try_comparison(&rt, Comparison::Less, data_type, &edges::UNSIGNED_LESS);
-        try_comparison(
-            &rt,
-            Comparison::LessOrEqual,
-            data_type,
-            &edges::UNSIGNED_LESS_OR_EQUAL,
-        );
-        try_comparison(
-            &rt,
-            Comparison::Greater,
-            data_type,
-            &edges::UNSIGNED_GREATER,
-        );
-        try_comparison(
-            &rt,
-            Comparison::GreaterOrEqual,
-            data_type,
-            &edges::UNSIGNED_GREATER_OR_EQUAL,
-        );
+        for (operator, table) in [
+            (Comparison::Equal, &edges::EQUAL),
+            (Comparison::NotEqual, &edges::NOT_EQUAL),
+            (Comparison::Less, &edges::UNSIGNED_LESS),
+            (Comparison::LessOrEqual, &edges::UNSIGNED_LESS_OR_EQUAL),
+            (Comparison::Greater, &edges::UNSIGNED_GREATER),
+            (
+                Comparison::GreaterOrEqual,
+                &edges::UNSIGNED_GREATER_OR_EQUAL,
+            ),
+        ] {
+            try_two(&rt, |a, b| operator.apply(data_type, a, b), table);
+        }
     }
 }
