@@ -1,4 +1,5 @@
--- Each answer gives the name that its arm reads: search doesn't find which text the bytes are, and the name decides the command.
+-- An answer of an arm gives the name that the arm reads: search doesn't find which text the bytes are, and the name decides the
+-- command. The last return, where each name has failed, is left open at half the limits.
 use Rattle.std.proofs.Common.{codes, rules, arith}
 use Rattle.std.proofs.lemmas.Slice.Eq.{text_from_reads}
 use Rattle.commands.proofs.files.file_command.Goals as goal
