@@ -4,8 +4,8 @@ ghost use Rattle.checker.specs.Records.{is_body_of};
 
 use tables::tables::Tables;
 
-// A place and its procedure stand beside the tables, here and in `names`. `Site` has the three with levels, which these do not need, and a
-// struct of the three alone would be named at each call with all its fields, and be no shorter.
+// A place and its procedure stand beside the tables, here and in `names`. `Site` has the three with levels, which these do not
+// need, and a struct of the three alone would be named at each call with all its fields, and be no shorter.
 pub(crate) fn is_body_of(tables: &Tables, procedure: u16, place: u16) -> bool
     ensures { result ≡ is_body_of tables.now.procedures.items procedure place }
 {

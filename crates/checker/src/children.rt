@@ -35,8 +35,8 @@ impl<L> Site<'_, L> {
         matches!(self.child_class(child), Some(Class::Statement { .. }))
     }
 
-    // An argument that may be absent. By a match: with `is_none_or` the proof did not close, since it is told nothing of what the closure
-    // answers, be it with clauses or over a method for the class.
+    // An argument that may be absent. By a match: with `is_none_or` the proof did not close, since it is told nothing of what
+    // the closure answers, be it with clauses or over a method for the class.
     fn is_argument(&self, child: Option<u16>) -> bool
         ensures { result ≡ argument_child (view self.now.tables.now) self.now.place self.now.procedure child }
     {

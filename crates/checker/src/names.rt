@@ -1,5 +1,5 @@
-// Row 17: each node but a body is named as a child exactly once. That there are at most 1024 is asked three times: as a ghost field it
-// would be asked of everyone who makes tables.
+// Row 17: each node but a body is named as a child exactly once. That there are at most 1024 is asked three times: as a ghost
+// field it would be asked of everyone who makes tables.
 ghost use Rattle.std.specs.Prelude.{◌≡◌, ◌≤◌, ◌||◌, [], length, replicate, fold, vec_capacity};
 ghost use Rattle.program.specs.Program.{children, optional};
 ghost use Rattle.typing.specs.Faults.{name_fault};
@@ -55,8 +55,8 @@ fn mark_names(names: &mut [Naming], nodes: &[TypedNode])
     }
 }
 
-// Makes an entry for each node. Entry by entry: `resize` answers a Result, whose error cannot come here, and says nowhere that it asks for
-// no memory where there is room.
+// Makes an entry for each node. Entry by entry: `resize` answers a Result, whose error cannot come here, and says nowhere that
+// it asks for no memory where there is room.
 fn name_none(names: &mut Vec<Naming>, nodes: &[TypedNode])
     requires room { (length nodes.now ≤ 1024) × (1024 ≤ vec_capacity names.old) }
     requires empty { names.old.items ≡ [] }

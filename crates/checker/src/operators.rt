@@ -22,7 +22,8 @@ const ALLOWED: [[bool; 3]; 11] = [
     [false, true, true], // >=
 ];
 
-// Whether the operator of a row takes a data type, if there is one. The table says it, and its rule is proved here, over all entries.
+// Whether the operator of a row takes a data type, if there is one. The table says it, and its rule is proved here, over all
+// entries.
 pub(crate) fn takes(row: usize, data_type: Option<DataType>) -> bool
     requires { row < 11 }
     ensures table { IfSome data_type (λ t. result ≡ allowed row (type_number t)) }
