@@ -24,20 +24,20 @@ fn result_fits<L: Levels>(levels: &L, procedure: Procedure) -> bool
     levels.is_level(procedure.level) && (procedure.result.is_some() || procedure.level == 0)
 }
 
-// Whether a variable is a parameter of the procedure exactly if it is one of the `count` from `first` on.
-fn is_owned(variable: Variable, place: usize, procedure: u16, first: u16, count: u8) -> bool
-    ensures { result ≡ same_truth (is_parameter_of procedure variable.role) (nat_le first place && nat_lt place (first + count)) }
+// Whether a variable is a parameter of the procedure of a number exactly if it is one of those that the procedure names.
+fn is_owned(variable: Variable, place: usize, number: u16, procedure: Procedure) -> bool
+    ensures { result ≡ same_truth (is_parameter_of number variable.role) (nat_le procedure.first_parameter place && nat_lt place (procedure.first_parameter + procedure.parameters)) }
 {
-    let first = first as usize;
-    let among = first <= place && place < first + count as usize;
-    (variable.role == Role::Parameter { procedure }) == among
+    let first = procedure.first_parameter as usize;
+    let named = first..first + procedure.parameters as usize;
+    (variable.role == Role::Parameter { procedure: number }) == named.contains(&place)
 }
 
-fn all_owned(variables: &[Variable], procedure: u16, first: u16, count: u8) -> bool
-    ensures { result ≡ all_below (owned_at variables.now procedure first count) (length variables.now) }
+fn all_owned(variables: &[Variable], number: u16, procedure: Procedure) -> bool
+    ensures { result ≡ all_below (owned_at variables.now number procedure.first_parameter procedure.parameters) (length variables.now) }
 {
     variables.iter().enumerate().all(|(place, variable)| is_owned(
-        *variable, place, procedure, first, count,
+        *variable, place, number, procedure,
     ))
 }
 
@@ -52,7 +52,7 @@ fn parameters_fit(variables: &[Variable], place: u16, procedure: Procedure) -> b
     parameters <= 8
         && first_parameter as usize + parameters as usize <= variables.len()
         && (parameters != 0 || first_parameter == 0)
-        && all_owned(variables, place, first_parameter, parameters)
+        && all_owned(variables, place, procedure)
 }
 
 // Whether a body is above that of the procedure before.

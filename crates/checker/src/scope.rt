@@ -14,7 +14,8 @@ impl<L> Site<'_, L> {
         Some(self.tables.variable(variable as usize)?.role)
     }
 
-    // The three rules differ in which roles they let pass, and each says so in one match, over a variable that may not be there.
+    // Reading and assigning differ in which roles they let pass, and each says so in one match, over a variable that may not be
+    // there.
     fn may_read(&self, variable: u16) -> bool
         ensures { result ≡ readable self.now.procedure (variable_at (view self.now.tables.now) variable) }
     {

@@ -28,28 +28,23 @@ fn variable_fits<L: Levels>(levels: &L, procedures: usize, variable: Variable) -
     owned && levels.is_level(variable.level)
 }
 
-fn check_variable<L: Levels>(
-    levels: &L,
-    procedures: usize,
-    place: u16,
-    fields: VariableFields,
-) -> Result<Variable, Refusal>
-    ensures { result ≡ checked (known no_variable (variable_decoded fields)) (unless (variable_fits L.Levels.rules procedures (variable_decoded fields)) (BadVariable place)) }
-{
-    decode_variable(fields)
-        .filter(|variable| variable_fits(levels, procedures, *variable))
-        .ok_or(Refusal::Variable(place))
-}
-
 impl<L: Levels> Check<'_, '_, L> {
+    fn check_variable(&self, place: u16, fields: VariableFields) -> Result<Variable, Refusal>
+        ensures { result ≡ checked (known no_variable (variable_decoded fields)) (unless (variable_fits L.Levels.rules self.now.parts.layout.procedures (variable_decoded fields)) (BadVariable place)) }
+    {
+        let procedures = self.parts.layout.procedures;
+        decode_variable(fields)
+            .filter(|variable| variable_fits(self.levels, procedures, *variable))
+            .ok_or(Refusal::Variable(place))
+    }
+
     pub(crate) fn check_variables(&self, tables: &mut Tables) -> Result<(), Refusal>
         requires { Empty tables.old }
         ensures value { result ≡ checked tt (first (fault_of_variable L.Levels.rules self.now.parts) self.now.parts.layout.variables) }
         ensures filled { OnOk result (Holds tables.new (variables_of self.now.parts) [] []) }
     {
-        let procedures = self.parts.layout.procedures;
         for (place, fields) in self.parts.variables().enumerate() {
-            let variable = check_variable(self.levels, procedures, place as u16, fields)?;
+            let variable = self.check_variable(place as u16, fields)?;
             tables.variables.push_reserved(variable);
         }
         Ok(())

@@ -27,7 +27,8 @@ impl Workspace {
 }
 
 // The counts of the records of a file that no row refuses, or the first fault. No row refuses a file exactly where it is
-// a well-formed and well-typed program's; its data types, levels and exits are then unique, and its nodes are trees.
+// a well-formed and well-typed program's; its data types, levels and exits are then unique, and its nodes are trees. The
+// value stands in the contracts of `fill` and of the engine's check too: each is asked by someone else, and says it whole.
 pub fn verdict<L: Levels>(
     levels: &L,
     workspace: &mut Workspace,

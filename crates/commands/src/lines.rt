@@ -12,7 +12,7 @@ pub struct Line<'a> {
     pub bytes: &'a [u8],
 }
 
-// What is left of a script, and how many lines were given.
+// What is left of a script, and how many lines were given: a line has its number with it, and the first is 1.
 #[derive(Drop)]
 pub struct Lines<'a> {
     rest: &'a [u8],

@@ -19,7 +19,7 @@ pub fn read_word(field: &[u8]) -> Option<u32>
 fn opposite(number: u32) -> Option<u32>
     ensures { result ≡ negative number }
 {
-    (0 < number && number <= 0x8000_0000).then(|| minus(number))
+    (1..=0x8000_0000).contains(&number).then(|| minus(number))
 }
 
 // The word of the int that a field writes: a word in decimal, or a negative int.

@@ -49,7 +49,7 @@ impl Refusal {
         }
     }
 
-    // The number of the variable, procedure or node at fault, or 0 where the file as a whole is.
+    // The number of the variable, procedure or node at fault, or 0 where the file as a whole is, as an answer shows it.
     pub fn place(self) -> u16
         ensures { result ≡ place_number self }
     {

@@ -9,7 +9,7 @@ pub struct Keying {
     pub word: u32,
 }
 
-// Why a keying is refused: the variable is no input, or was keyed already.
+// Why a keying is refused: the variable is no input, or was keyed already. Nobody prints it yet, so it has no Display.
 #[derive(Clone, Copy)]
 pub enum KeyRefusal {
     NotAnInput,
@@ -32,7 +32,8 @@ pub struct Ran {
     pub lines: u32,
 }
 
-// Why a request is refused: too many steps in all, no level, no variable, its level does not flow into the one that looks, or no line.
+// Why a request is refused: too many steps in all, no level, no variable, its level does not flow into the one that looks, or
+// no line. Nobody prints it yet, so it has no Display.
 #[derive(Clone, Copy)]
 pub enum RequestRefusal {
     TooManySteps,
@@ -42,6 +43,7 @@ pub enum RequestRefusal {
     NoLine,
 }
 
+// A refusal is an answer like the others, since what an observer sees is a list of answers.
 #[derive(Clone, Copy)]
 pub enum Answer {
     Ran(Ran),

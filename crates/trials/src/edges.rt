@@ -15,6 +15,7 @@ const HALF: u32 = 0x4000_0000;
 // The last word, which is the int -1.
 const LAST: u32 = 0xffff_ffff;
 
+// Beside the tables and not in them, since all share these.
 pub const EDGES: [u32; 7] = [0, 1, 2, MOST, LEAST, LEAST + 1, LAST];
 
 // A word for each two edges: a row for each left operand, and a column for each right one.

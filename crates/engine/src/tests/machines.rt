@@ -69,6 +69,7 @@ fn line((kind, node, steps, data_type, word): LineRow) -> Line {
     }
 }
 
+// Row by row, since a row of a program's lines is one tuple.
 pub(crate) fn check_lines<H: Holding + Drop>(
     rt: &impl Abort,
     machine: &Machine<H>,

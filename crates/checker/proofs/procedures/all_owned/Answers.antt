@@ -13,9 +13,9 @@ use Rattle.checker.proofs.procedures.all_owned.Goals as goal
 pub returns : goal.returns
 returns c =
     let vs = c.args.variables.now in
-    let q = c.args.procedure in
-    let f = c.args.first in
-    let n = c.args.count in
+    let q = c.args.number in
+    let f = c.args.procedure.first_parameter in
+    let n = c.args.procedure.parameters in
     let test = λ (p : ℕ × Variable). same_truth (is_parameter_of q p.1.role) (nat_le f p.0 && nat_lt p.0 (f + n)) in
     let each = YieldsList-from_enumerate (YieldsList-from_slice vs cc) cc in
     all_from_yields_List test _ _ c.all.result c.all.ensures.ran each (λ x b q k. search (rules, tests))
