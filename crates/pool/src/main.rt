@@ -74,7 +74,9 @@ impl Session {
         Ok(Some(self.desk.check(&mut self.workspace, file.as_slice())))
     }
 
-    // Prints what a line is answered, where it holds a command, or what is wrong with it.
+    // Prints what a line is answered, where it holds a command, or what is wrong with it. In line in the loop over the lines: as
+    // a function of its own it would clear the memory for all texts at every line, an empty one too.
+    #[inline(always)]
     fn reply(&mut self, rt: &HostRuntime, line: Line<'_>) -> anyhow::Result<()> {
         let answer = match self.check(rt, line.bytes) {
             Ok(None) => self.desk.respond(line),
