@@ -5,11 +5,11 @@ ghost use Rattle.commands.specs.Numbers.{word_in, negative, int_in};
 use std::str::from_utf8;
 use words::operators::minus;
 
-// The word that a field writes in decimal, with no sign before it.
+// The word that a field writes in decimal, with no sign before it. Where the first byte is no digit, none other is read.
 pub fn read_word(field: &[u8]) -> Option<u32>
     ensures { result ≡ word_in field.now }
 {
-    if field.starts_with(b"+") {
+    if !field.first()?.is_ascii_digit() {
         return None;
     }
     from_utf8(field).ok()?.parse().ok()
