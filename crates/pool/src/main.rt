@@ -75,7 +75,7 @@ impl Session {
     }
 
     // Prints what a line is answered, where it holds a command, or what is wrong with it. In line in the loop over the lines: as
-    // a function of its own it would clear the memory for all texts at every line, an empty one too.
+    // a function of its own it would clear all its locals at every line, an empty one too.
     #[inline(always)]
     fn reply(&mut self, rt: &HostRuntime, line: Line<'_>) -> anyhow::Result<()> {
         let answer = match self.check(rt, line.bytes) {
