@@ -39,6 +39,8 @@ impl<'a> Iterator for Lines<'a> {
 
     ghost remaining = { λ s. at_most (length s.rest.now) };
 
+    // A call, and not in line: in the middle of a long caller the loop over a line's bytes would read its bound from memory.
+    #[inline(never)]
     fn next(&mut self) -> Option<Line<'a>> {
         if self.rest.is_empty() {
             return None;
