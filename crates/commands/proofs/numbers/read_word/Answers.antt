@@ -1,13 +1,11 @@
 -- No byte or no digit at the front, bytes that are no text, and what `parse` gives.
-use Rattle.std.proofs.Common.{◌≡◌, IsUtf8, true, false, get_or, ◌∙◌, rules}
-use Rattle.std.specs.Char.{is_ascii_digit}
-use Rattle.commands.proofs.Decimals.{word_parsed, no_digit, no_text, unsigned}
+use Rattle.std.proofs.Common.{◌≡◌, ◌≢◌, IsUtf8, get_or, ◌∙◌, rules}
+use Rattle.commands.proofs.Decimals.{word_parsed, no_digit, no_text}
 use Rattle.commands.proofs.numbers.read_word.Goals as goal
 
 pub returns-in_err-first : goal.returns-in_err-first
 returns-in_err-first c =
-    let none : is_ascii_digit (get_or c.args.field.now 0 0) ≡ false = search rules in
-    c.from_residual.ensures ∙ no_digit c.args.field.now none
+    c.from_residual.ensures ∙ no_digit c.args.field.now (search rules)
 
 pub returns-then-not-is_ascii_digit : goal.returns-then-not-is_ascii_digit
 returns-then-not-is_ascii_digit c = no_digit c.args.field.now (search rules)
@@ -20,6 +18,6 @@ returns-in_err-ok c =
 pub returns : goal.returns
 returns c =
     let same : c.in_ok-ok.field-0.now ≡ c.args.field.now = search rules in
-    let digit : is_ascii_digit (get_or c.args.field.now 0 0) ≡ true = search rules in
+    let plain : get_or c.args.field.now 0 0 ≢ 43 = search rules in
     let parsed = c.parse.ensures.value.0 in
-    c.ok-2.ensures.value ∙ word_parsed c.args.field.now _ (rw same at parsed) (unsigned (get_or c.args.field.now 0 0) digit)
+    c.ok-2.ensures.value ∙ word_parsed c.args.field.now _ (rw same at parsed) plain
